@@ -143,6 +143,7 @@ act-kept c s (Timeout i t) g = holds-guard _ _ _ (λ k. holds-guard _ _ _ (λ _.
 act-kept c s (Crash i) g = holds-guard _ _ _ (λ _. holds-done (kept-actor s i _ refl refl g))
 act-kept c s (Recover i) g = holds-guard _ _ _ (λ k. holds-guard _ _ _ (λ _. holds-map (wake-kept c i _ (rw size-with (known-lt s i k)) (kept-actor s i _ refl refl g)) (λ x z. z .kept)))
 
+-- A step keeps them alike, whatever its answer.
 pub step-kept : (c : Caps) (s : Sys) (a : Action) → Kept s → Kept (after s (step c s a))
 unfolding step after
 step-kept c s a g = go (step c s a) (holds-guard _ _ _ (λ _. act-kept c s a g))
@@ -176,6 +177,7 @@ wakeAll-kept c i [] s k g = holds-done g
 wakeAll-kept c i (a ∷ more) s k g = holds-bind _ _ (wake-kept c (record { 0 = i }) s (omega arith) g) (λ x z.
     holds-bind _ _ (wakeAll-kept c (suc i) more (x .sys) (rw (z .size) (omega arith)) (z .kept)) (λ y w. holds-done w))
 
+-- So does a start.
 pub start-kept : (c : Caps) (k : ℕ) (ts : List (List Rule)) (es : List Envelope) → Holds (λ (x : Next). Kept (x .sys)) (start c k ts es)
 unfolding start
 start-kept c k ts es = holds-guard _ _ _ (λ _. holds-bind _ _ (fill-kept (c .room) es _ (boot-kept (kindOf k) ts)) (λ t g. wakeAll-kept c 0 _ t (let z = g .1 in omega arith) (g .0)))
