@@ -15,6 +15,7 @@ use Rattle.types.specs.declared.Entry.{Entry}
 use Rattle.types.specs.declared.Kind.{Kind}
 use Rattle.types.specs.declared.Kind.the-variants.{Ordered, UnorderedDuplicating, UnorderedNonDuplicating}
 use Rattle.types.specs.declared.LastMessage.the-variants.{Delivered}
+use Rattle.types.specs.declared.Answer.{Answer}
 use Rattle.types.specs.declared.Answer.the-variants.{Done, Absent}
 use Rattle.types.specs.Order.{cmpFlow, isLess, same}
 use Rattle.types.specs.Answers.{answerOf}
@@ -24,18 +25,18 @@ use Rattle.rules.proofs.Network.{put-ordered, put-new, put-again, remove-last, 
 use Rattle.network.specs.declared.Network.{Network}
 use Rattle.network.specs.declared.Sent.{Sent}
 use Rattle.network.specs.Views.{zeroEntry, entryList, netView, networkOf, NetLaid, sentOf}
-use Rattle.network.specs.Parts.{entered, fitting, takenAt}
+use Rattle.network.specs.Parts.{entered, fitting, takenAt, takenOr}
 use Rattle.network.proofs.Tests.{any-yes, any-no}
 use Rattle.network.proofs.Changes.{used-is, held}
 use Rattle.network.proofs.Lookup.{There, Missing}
 
 -- ---- a send
-pub sent-by : (n : Network) (e : Envelope) (l : List Entry) → put (n .kind) e (entryList n) ≡ l → sentOf n (fitting n l) ≡ sentOf n (send (base .room) e (netView n))
+pub sent-by : (n : Network) (e : Envelope) (l : List Entry) → put (n .kind) e (entryList n) ≡ l → (r : Sent) → r ≡ sentOf n (fitting n l) → r ≡ sentOf n (send (base .room) e (netView n))
 unfolding send sending
-sent-by n e l h = ap (λ (m : List Entry). sentOf n (fitting n m)) (sym h)
+sent-by n e l h r q = q ∙ ap (λ (m : List Entry). sentOf n (fitting n m)) (sym h)
 
-pub put-flow : (k : Kind) (e : Envelope) (l : List Entry) → k ≡ Ordered → put k e l ≡ ins (lead (λ x. not (isLess (cmpFlow e (x .envelope)))) l) (single e) l
-put-flow k e l h = ap (λ (j : Kind). put j e l) h ∙ put-ordered e zeroEntry l
+pub put-flow : (k : Kind) (e : Envelope) (l : List Entry) (at : ℕ) → k ≡ Ordered → at ≡ lead (λ x. not (isLess (cmpFlow e (x .envelope)))) l → put k e l ≡ ins at (single e) l
+put-flow k e l at h p = rw p (ap (λ (j : Kind). put j e l) h ∙ put-ordered e zeroEntry l)
 
 pub put-missing : (k : Kind) (e : Envelope) (l : List Entry) (at : ℕ) → (k ≡ Ordered → ⊥) → Missing e l at → put k e l ≡ ins at (single e) l
 put-missing k e l at h m = rw (m .place) (put-new e zeroEntry l k h (rw (m .place) at (m .other)))
@@ -57,7 +58,7 @@ module _ (e : Envelope) (l : List Entry) where
       go (no k) = let z : 1 < getD l first zeroEntry .count = omega arith in rw (lt-leb (getD l first zeroEntry .count) 1 z) (sym (remove-one e zeroEntry l h z))
 
 module _ (n : Network) (laid : NetLaid n) (e : Envelope) where
-  pub taken : (absent : Sent) (at : ℕ) → at ≡ first e (entryList n) → at < n .used → (r : Sent) → r ≡ sentOf n (done (entered n (takenAt at (entryList n)))) → r ≡ choose (present e (netView n)) (sentOf n (done (dropping e (netView n)))) absent
+  pub taken : (absent : Answer) (at : ℕ) → at ≡ first e (entryList n) → at < n .used → (r : Sent) → r ≡ sentOf n (done (entered n (takenAt at (entryList n)))) → r ≡ takenOr absent e n
   unfolding present dropping choose
   taken absent at p h r q =
       let v = used-is n laid in
@@ -65,7 +66,7 @@ module _ (n : Network) (laid : NetLaid n) (e : Envelope) where
       rw (any-yes (λ x. same e (x .envelope)) (entryList n) w)
       (q ∙ ap (λ (l : List Entry). sentOf n (done (entered n l))) (ap (λ (k : ℕ). takenAt k (entryList n)) p ∙ taken-is e (entryList n) w))
 
-  pub left : (absent : Sent) (at : ℕ) → at ≡ first e (entryList n) → n .used ≤ at → absent ≡ choose (present e (netView n)) (sentOf n (done (dropping e (netView n)))) absent
+  pub left : (absent : Answer) (at : ℕ) → at ≡ first e (entryList n) → n .used ≤ at → _≡_ {A = Sent} (record { answer = absent; network = n }) (takenOr absent e n)
   unfolding present choose
   left absent at p h =
       let v = used-is n laid in
@@ -87,21 +88,21 @@ module _ (n : Network) (laid : NetLaid n) (e : Envelope) where
   by-presence true m = refl
   by-presence false m = refl
 
-  pub delivered-one : isDuplicating (n .kind) ≡ false → choose (present e (netView n)) (sentOf n (done (dropping e (netView n)))) (record { answer = Absent; network = n }) ≡ sentOf n (onDeliver e (netView n))
+  pub delivered-one : isDuplicating (n .kind) ≡ false → (r : Sent) → r ≡ takenOr Absent e n → r ≡ sentOf n (onDeliver e (netView n))
   unfolding onDeliver delivering choose
-  delivered-one h = rw h (by-presence (present e (netView n)) (dropping e (netView n)))
+  delivered-one h r q = q ∙ rw h (by-presence (present e (netView n)) (dropping e (netView n)))
 
-  pub dropped-one : isDuplicating (n .kind) ≡ false → choose (present e (netView n)) (sentOf n (done (dropping e (netView n)))) (record { answer = Absent; network = n }) ≡ sentOf n (onDrop e (netView n))
+  pub dropped-one : isDuplicating (n .kind) ≡ false → (r : Sent) → r ≡ takenOr Absent e n → r ≡ sentOf n (onDrop e (netView n))
   unfolding onDrop
-  dropped-one h = rw h (by-presence (present e (netView n)) (dropping e (netView n)))
+  dropped-one h r q = q ∙ rw h (by-presence (present e (netView n)) (dropping e (netView n)))
 
   pub delivered-copy : isDuplicating (n .kind) ≡ true → _≡_ {A = Sent} (record { answer = Done; network = record { kind = n .kind; entries = n .entries; used = n .used; last = Delivered e } }) (sentOf n (onDeliver e (netView n)))
   unfolding onDeliver delivering choose guard answerOf
   delivered-copy h = let v = used-is n laid in rw h (λ i. record { answer = Done; network = record { kind = n .kind; entries = laid .rest i; used = sym v i; last = Delivered e } })
 
-  pub dropped-silent : isDuplicating (n .kind) ≡ true → choose (present e (netView n)) (sentOf n (done (dropping e (netView n)))) (record { answer = Done; network = n }) ≡ sentOf n (onDrop e (netView n))
+  pub dropped-silent : isDuplicating (n .kind) ≡ true → (r : Sent) → r ≡ takenOr Done e n → r ≡ sentOf n (onDrop e (netView n))
   unfolding onDrop guard choose answerOf
-  dropped-silent h = rw h (go (present e (netView n)) refl)
+  dropped-silent h r q = q ∙ rw h (go (present e (netView n)) refl)
     where
       go : (b : Bool) → present e (netView n) ≡ b → choose b (sentOf n (done (dropping e (netView n)))) (record { answer = Done; network = n }) ≡ sentOf n (done (dropping e (netView n)))
       go true q = refl

@@ -3,3 +3,4 @@ pub mod Changes
 pub mod Lookup
 pub mod Sums
 pub mod ByKind
+pub mod Ready

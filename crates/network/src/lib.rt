@@ -9,18 +9,18 @@ use types::Message;
 use types::Number;
 use types::Payload;
 ghost use mathlib.Core.Path.{_≡_};
-ghost use mathlib.Core.List.{[]};
-ghost use Rattle.types.specs.declared.LastMessage.the-variants.{Nothing};
 ghost use mathlib.Core.Bool.{true, not};
-ghost use Prim.Native.Nat.{_+_, _≤_, _<_};
-ghost use lib.ListN.{length, take, getD, set};
-ghost use Rattle.lists.specs.Lists.{choose, chain, lead, ins, grow, shrink};
-ghost use Rattle.types.specs.declared.Kind.the-variants.{Ordered as ordered};
+ghost use mathlib.Core.List.{[]};
+ghost use Prim.Native.Nat.{_≤_, _<_};
+ghost use lib.ListN.{take, getD, set};
+ghost use Rattle.lists.specs.Lists.{chain, lead, ins, grow, shrink};
+ghost use Rattle.types.specs.declared.Kind.the-variants.{Ordered};
+ghost use Rattle.types.specs.declared.LastMessage.the-variants.{Nothing};
 ghost use Rattle.types.specs.Order.{same};
 ghost use Rattle.rules.specs.Outcome.{done, base};
-ghost use Rattle.rules.specs.Network.{single, again, present, dropping, send as sendRule, onDeliver, onDrop, len as lenRule};
-ghost use Rattle.network.specs.Views.{zeroEntry, entryList, netView, networkOf, NetLaid, NetReady, sentOf, stands, lookUp};
-ghost use Rattle.network.specs.Parts.{passesOf, copiesOf, entered, fitting, takenAt};
+ghost use Rattle.rules.specs.Network.{single, again, send, onDeliver, onDrop, len};
+ghost use Rattle.network.specs.Views.{zeroEntry, entryList, netView, networkOf, NetReady, sentOf, stands, lookUp};
+ghost use Rattle.network.specs.Parts.{passesOf, copiesOf, entered, fitting, takenAt, takenOr};
 
 // Places from the used count on hold the zero entry.
 pub struct Network {
@@ -265,8 +265,8 @@ fn take_out(n: Network, at: usize) -> Sent
 
 // After its flow.
 fn send_ordered(n: Network, e: Envelope) -> Sent
-    requires { ⌜ NetReady n × (n .kind ≡ ordered) ⌝ }
-    ensures { λ r. ⌜ r ≡ sentOf n (sendRule (base .room) e (netView n)) ⌝ }
+    requires { ⌜ NetReady n × (n .kind ≡ Ordered) ⌝ }
+    ensures { λ r. ⌜ r ≡ sentOf n (send (base .room) e (netView n)) ⌝ }
 {
     let es = n.entries;
     let at = scan(Look::UpToFlow, es, n.used, e);
@@ -275,8 +275,8 @@ fn send_ordered(n: Network, e: Envelope) -> Sent
 
 // Kinds 1 and 2: at its place.
 fn send_sorted(n: Network, e: Envelope) -> Sent
-    requires { ⌜ NetReady n × (n .kind ≡ ordered → ⊥) ⌝ }
-    ensures { λ r. ⌜ r ≡ sentOf n (sendRule (base .room) e (netView n)) ⌝ }
+    requires { ⌜ NetReady n × (n .kind ≡ Ordered → ⊥) ⌝ }
+    ensures { λ r. ⌜ r ≡ sentOf n (send (base .room) e (netView n)) ⌝ }
 {
     let es = n.entries;
     let used = n.used;
@@ -289,7 +289,7 @@ fn send_sorted(n: Network, e: Envelope) -> Sent
 
 pub fn send(n: Network, e: Envelope) -> Sent
     requires { ⌜ NetReady n ⌝ }
-    ensures { λ r. ⌜ r ≡ sentOf n (sendRule (base .room) e (netView n)) ⌝ }
+    ensures { λ r. ⌜ r ≡ sentOf n (send (base .room) e (netView n)) ⌝ }
 {
     let kind = n.kind;
     match kind {
@@ -329,7 +329,7 @@ fn equal_place(n: Network, e: Envelope) -> usize
 // One copy goes, or the answer is that of an absent message.
 fn take_one(n: Network, e: Envelope, absent: Answer) -> Sent
     requires { ⌜ NetReady n ⌝ }
-    ensures { λ r. ⌜ r ≡ choose (present e (netView n)) (sentOf n (done (dropping e (netView n)))) (record { answer = absent; network = n }) ⌝ }
+    ensures { λ r. ⌜ r ≡ takenOr absent e n ⌝ }
 {
     let used = n.used;
     let at = equal_place(n, e);
@@ -384,7 +384,7 @@ fn wide(count: u16) -> u64
 // Set size, sum of counts, or sum of flow lengths.
 pub fn len(n: Network) -> u64
     requires { ⌜ n .used ≤ 128 ⌝ }
-    ensures { λ r. ⌜ r ≡ lenRule (entryList n) ⌝ }
+    ensures { λ r. ⌜ r ≡ len (entryList n) ⌝ }
 {
     let es = n.entries;
     let used = n.used;

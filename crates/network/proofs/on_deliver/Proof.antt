@@ -1,4 +1,3 @@
-use mathlib.Core.Path.{_∙_}
 use Rattle.network.proofs.ByKind.{delivered-one, delivered-copy, one-ordered, one-counted, set-kind}
 use borrow.Author.Needs.{needs}
 use Rattle.network.proofs.on_deliver.Statement.{statement}
@@ -22,7 +21,7 @@ take-one-requires-2 c κs = search needs
 returns : tie.Need-returns
 returns c =
     let s = c .before .before .before .before in
-    c .take-one .ensures ∙ delivered-one (s .args .n) (s .pre .laid) (s .args .e) (one-ordered (s .args .n .kind) (c .before .enum-told .given .1))
+    delivered-one (s .args .n) (s .pre .laid) (s .args .e) (one-ordered (s .args .n .kind) (c .before .enum-told .given .1)) (c .take-one .result) (c .take-one .ensures)
 
 returns-2 : tie.Need-returns-2
 returns-2 c =
@@ -32,7 +31,7 @@ returns-2 c =
 returns-3 : tie.Need-returns-3
 returns-3 c =
     let s = c .before .before .before .before in
-    c .take-one2 .ensures ∙ delivered-one (s .args .n) (s .pre .laid) (s .args .e) (one-counted (s .args .n .kind) (c .before .enum-told3 .given .1))
+    delivered-one (s .args .n) (s .pre .laid) (s .args .e) (one-counted (s .args .n .kind) (c .before .enum-told3 .given .1)) (c .take-one2 .result) (c .take-one2 .ensures)
 
 pub on-deliver-spec : {M : Type 1} → statement M
 on-deliver-spec =

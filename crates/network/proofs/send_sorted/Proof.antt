@@ -1,19 +1,33 @@
 use native.Mathlib.Omega.{arith}
 use mathlib.Core.Path.{_≡_, sym, _∙_}
-use lib.ListN.{length}
+use mathlib.Core.Bool.{true}
+use Rattle.lists.specs.Lists.{chain}
 use Rattle.lists.proofs.Places.{lead-le}
-use Rattle.network.specs.Views.{entryList, sentOf}
+use Rattle.network.specs.Views.{entryList, stands}
 use Rattle.network.proofs.Changes.{used-is}
-use Rattle.network.proofs.Lookup.{ascend, before, told-at, told-free}
+use Rattle.network.proofs.Lookup.{ascend, before, There, Missing, told-at, told-free}
 use Rattle.network.proofs.ByKind.{sent-by, put-there, put-missing}
 use borrow.Author.Needs.{needs}
 use Rattle.network.proofs.send_sorted.Statement.{statement}
 use Rattle.network.proofs.send_sorted.Tie as tie
 
+-- The entries ascend.
+sorted : (s : tie.Start) → chain stands (entryList (s .args .n)) ≡ true
+sorted s = ascend (s .args .n .kind) (entryList (s .args .n)) (s .pre .1) (s .pre .0 .order)
+
+-- What the look-up's two answers tell.
+there : (c : tie.After-known-told) → There (c .before .before .before .before .before .args .e) (entryList (c .before .before .before .before .before .args .n)) (c .before .f .given .0 .0)
+there c =
+    let s = c .before .before .before .before .before in
+    told-at (s .args .e) (entryList (s .args .n)) (sorted s) _ (sym (c .before .before .before .look-up .ensures) ∙ c .before .f .given .1)
+
+missing : (c : tie.After-known-told2) → Missing (c .before .before .before .before .before .args .e) (entryList (c .before .before .before .before .before .args .n)) (c .before .f2 .given .0 .0)
+missing c =
+    let s = c .before .before .before .before .before in
+    told-free (s .args .e) (entryList (s .args .n)) (sorted s) _ (sym (c .before .before .before .look-up .ensures) ∙ c .before .f2 .given .1)
+
 look-up-requires : tie.Need-look-up-requires
-look-up-requires c κs =
-    let s = c .before in
-    (s .pre .0 .laid .fit, ascend (s .args .n .kind) (entryList (s .args .n)) (s .pre .1) (s .pre .0 .order))
+look-up-requires c κs = (c .before .pre .0 .laid .fit, sorted (c .before))
 
 enum-known-f : tie.Need-enum-known-f
 enum-known-f c = search needs
@@ -21,9 +35,7 @@ enum-known-f c = search needs
 count-up-requires : tie.Need-count-up-requires
 count-up-requires c κs =
     let s = c .before .before .before .before .before in
-    let n = s .args .n in
-    let t = told-at (s .args .e) (entryList n) (ascend (n .kind) (entryList n) (s .pre .1) (s .pre .0 .order)) (c .before .f .given .0 .0) (sym (c .before .before .before .look-up .ensures) ∙ c .before .f .given .1) in
-    (s .pre .0, omega (arith, t .within, used-is n (s .pre .0 .laid)))
+    (s .pre .0, omega (arith, there c .within, used-is (s .args .n) (s .pre .0 .laid)))
 
 enum-known-f-2 : tie.Need-enum-known-f-2
 enum-known-f-2 c = search needs
@@ -31,23 +43,19 @@ enum-known-f-2 c = search needs
 insert-entry-requires : tie.Need-insert-entry-requires
 insert-entry-requires c κs =
     let s = c .before .before .before .before .before in
-    let n = s .args .n in
-    let t = told-free (s .args .e) (entryList n) (ascend (n .kind) (entryList n) (s .pre .1) (s .pre .0 .order)) (c .before .f2 .given .0 .0) (sym (c .before .before .before .look-up .ensures) ∙ c .before .f2 .given .1) in
-    (s .pre .0, omega (arith, t .place, lead-le (before (s .args .e)) (entryList n), used-is n (s .pre .0 .laid)))
+    (s .pre .0, omega (arith, missing c .place, lead-le (before (s .args .e)) (entryList (s .args .n)), used-is (s .args .n) (s .pre .0 .laid)))
 
 returns : tie.Need-returns
 returns c =
     let s = c .before .before .before .before .before .before in
     let n = s .args .n in
-    let t = told-at (s .args .e) (entryList n) (ascend (n .kind) (entryList n) (s .pre .1) (s .pre .0 .order)) (c .before .before .f .given .0 .0) (sym (c .before .before .before .before .look-up .ensures) ∙ c .before .before .f .given .1) in
-    c .count-up .ensures ∙ sent-by n (s .args .e) _ (put-there (n .kind) (s .args .e) (entryList n) _ (s .pre .1) t)
+    sent-by n (s .args .e) _ (put-there (n .kind) (s .args .e) (entryList n) _ (s .pre .1) (there (c .before))) (c .count-up .result) (c .count-up .ensures)
 
 returns-2 : tie.Need-returns-2
 returns-2 c =
     let s = c .before .before .before .before .before .before in
     let n = s .args .n in
-    let t = told-free (s .args .e) (entryList n) (ascend (n .kind) (entryList n) (s .pre .1) (s .pre .0 .order)) (c .before .before .f2 .given .0 .0) (sym (c .before .before .before .before .look-up .ensures) ∙ c .before .before .f2 .given .1) in
-    c .insert-entry .ensures ∙ sent-by n (s .args .e) _ (put-missing (n .kind) (s .args .e) (entryList n) _ (s .pre .1) t)
+    sent-by n (s .args .e) _ (put-missing (n .kind) (s .args .e) (entryList n) _ (s .pre .1) (missing (c .before))) (c .insert-entry .result) (c .insert-entry .ensures)
 
 pub send-sorted-spec : {M : Type 1} → statement M
 send-sorted-spec =
