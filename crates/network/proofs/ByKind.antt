@@ -25,10 +25,29 @@ use Rattle.rules.proofs.Network.{put-ordered, put-new, put-again, remove-last, 
 use Rattle.network.specs.declared.Network.{Network}
 use Rattle.network.specs.declared.Sent.{Sent}
 use Rattle.network.specs.Views.{zeroEntry, entryList, netView, networkOf, NetLaid, sentOf}
-use Rattle.network.specs.Parts.{entered, fitting, takenAt, takenOr}
+use Rattle.network.specs.Parts.{entered, fitting, takenAt, takenOr, absentOf}
 use Rattle.network.proofs.Tests.{any-yes, any-no}
 use Rattle.network.proofs.Changes.{used-is, held}
 use Rattle.network.proofs.Lookup.{There, Missing}
+
+-- ---- the kinds
+pub one-ordered : (k : Kind) → k ≡ Ordered → isDuplicating k ≡ false
+unfolding isDuplicating
+one-ordered k h = rw h
+
+pub one-counted : (k : Kind) → k ≡ UnorderedNonDuplicating → isDuplicating k ≡ false
+unfolding isDuplicating
+one-counted k h = rw h
+
+pub set-kind : (k : Kind) → k ≡ UnorderedDuplicating → isDuplicating k ≡ true
+unfolding isDuplicating
+set-kind k h = rw h
+
+pub set-sorted : (k : Kind) → k ≡ UnorderedDuplicating → k ≡ Ordered → ⊥
+set-sorted k h o = let z : _≡_ {A = ℕ} 0 1 = cc in omega arith
+
+pub counted-sorted : (k : Kind) → k ≡ UnorderedNonDuplicating → k ≡ Ordered → ⊥
+counted-sorted k h o = let z : _≡_ {A = ℕ} 0 1 = cc in omega arith
 
 -- ---- a send
 pub sent-by : (n : Network) (e : Envelope) (l : List Entry) → put (n .kind) e (entryList n) ≡ l → (r : Sent) → r ≡ sentOf n (fitting n l) → r ≡ sentOf n (send (base .room) e (netView n))
@@ -92,37 +111,16 @@ module _ (n : Network) (laid : NetLaid n) (e : Envelope) where
   unfolding onDeliver delivering choose
   delivered-one h r q = q ∙ rw h (by-presence (present e (netView n)) (dropping e (netView n)))
 
-  pub dropped-one : isDuplicating (n .kind) ≡ false → (r : Sent) → r ≡ takenOr Absent e n → r ≡ sentOf n (onDrop e (netView n))
-  unfolding onDrop
-  dropped-one h r q = q ∙ rw h (by-presence (present e (netView n)) (dropping e (netView n)))
-
   pub delivered-copy : isDuplicating (n .kind) ≡ true → _≡_ {A = Sent} (record { answer = Done; network = record { kind = n .kind; entries = n .entries; used = n .used; last = Delivered e } }) (sentOf n (onDeliver e (netView n)))
   unfolding onDeliver delivering choose guard answerOf
   delivered-copy h = let v = used-is n laid in rw h (λ i. record { answer = Done; network = record { kind = n .kind; entries = laid .rest i; used = sym v i; last = Delivered e } })
 
-  pub dropped-silent : isDuplicating (n .kind) ≡ true → (r : Sent) → r ≡ takenOr Done e n → r ≡ sentOf n (onDrop e (netView n))
+  pub dropped : (k : Kind) → n .kind ≡ k → (r : Sent) → r ≡ takenOr (absentOf k) e n → r ≡ sentOf n (onDrop e (netView n))
   unfolding onDrop guard choose answerOf
-  dropped-silent h r q = q ∙ rw h (go (present e (netView n)) refl)
+  dropped Ordered h r q = q ∙ rw (one-ordered (n .kind) h) (by-presence (present e (netView n)) (dropping e (netView n)))
+  dropped UnorderedDuplicating h r q = q ∙ rw (set-kind (n .kind) h) (go (present e (netView n)) refl)
     where
       go : (b : Bool) → present e (netView n) ≡ b → choose b (sentOf n (done (dropping e (netView n)))) (record { answer = Done; network = n }) ≡ sentOf n (done (dropping e (netView n)))
       go true q = refl
       go false q = λ i. record { answer = Done; network = dropped-none q i }
-
--- ---- the kinds
-pub one-ordered : (k : Kind) → k ≡ Ordered → isDuplicating k ≡ false
-unfolding isDuplicating
-one-ordered k h = rw h
-
-pub one-counted : (k : Kind) → k ≡ UnorderedNonDuplicating → isDuplicating k ≡ false
-unfolding isDuplicating
-one-counted k h = rw h
-
-pub set-kind : (k : Kind) → k ≡ UnorderedDuplicating → isDuplicating k ≡ true
-unfolding isDuplicating
-set-kind k h = rw h
-
-pub set-sorted : (k : Kind) → k ≡ UnorderedDuplicating → k ≡ Ordered → ⊥
-set-sorted k h o = let z : _≡_ {A = ℕ} 0 1 = cc in omega arith
-
-pub counted-sorted : (k : Kind) → k ≡ UnorderedNonDuplicating → k ≡ Ordered → ⊥
-counted-sorted k h o = let z : _≡_ {A = ℕ} 0 1 = cc in omega arith
+  dropped UnorderedNonDuplicating h r q = q ∙ rw (one-counted (n .kind) h) (by-presence (present e (netView n)) (dropping e (netView n)))

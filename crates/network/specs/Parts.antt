@@ -9,6 +9,7 @@ use Rattle.lists.specs.Lists.{choose, del}
 use Rattle.types.specs.declared.Envelope.{Envelope}
 use Rattle.types.specs.declared.Entry.{Entry}
 use Rattle.types.specs.declared.Answer.{Answer}
+use Rattle.types.specs.declared.Answer.the-variants.{Done, Absent}
 use Rattle.types.specs.declared.Kind.{Kind}
 use Rattle.types.specs.declared.Kind.the-variants.{Ordered, UnorderedDuplicating, UnorderedNonDuplicating}
 use Rattle.types.specs.Order.{cmpEnvelope, cmpFlow, isLess, same}
@@ -41,6 +42,12 @@ fitting n l = guard (fits (base .room) (entered n l)) 8 (done (entered n l))
 -- One copy less at a place.
 unfoldable pub takenAt : ℕ → List Entry → List Entry
 takenAt at l = choose (leb (getD l at zeroEntry .count) 1) (del at l) (set l at (lowered (getD l at zeroEntry)))
+
+-- The answer to a Drop of an absent message.
+abbrev pub absentOf : Kind → Answer
+absentOf Ordered = Absent
+absentOf UnorderedDuplicating = Done
+absentOf UnorderedNonDuplicating = Absent
 
 -- A removal, with the answer where there is nothing to remove.
 abbrev pub takenOr : Answer → Envelope → Network → Sent

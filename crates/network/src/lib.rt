@@ -20,7 +20,7 @@ ghost use Rattle.types.specs.Order.{same};
 ghost use Rattle.rules.specs.Outcome.{done, base};
 ghost use Rattle.rules.specs.Network.{single, again, send, onDeliver, onDrop, len};
 ghost use Rattle.network.specs.Views.{zeroEntry, entryList, netView, networkOf, NetReady, sentOf, stands, lookUp};
-ghost use Rattle.network.specs.Parts.{passesOf, copiesOf, entered, fitting, takenAt, takenOr};
+ghost use Rattle.network.specs.Parts.{passesOf, copiesOf, entered, fitting, takenAt, takenOr, absentOf};
 
 // Places from the used count on hold the zero entry.
 pub struct Network {
@@ -233,7 +233,7 @@ fn take_out(n: Network, at: usize) -> Sent
     let mut es = n.entries;
     let used = n.used;
     let kind = n.kind;
-    let last = n.last;
+    let kept = n.last;
     let x = es[at];
     if x.count <= 1 {
         let shrunk = remove_at(es, used, at);
@@ -243,7 +243,7 @@ fn take_out(n: Network, at: usize) -> Sent
                 kind: kind,
                 entries: shrunk,
                 used: used - 1,
-                last: last,
+                last: kept,
             },
         };
     }
@@ -258,7 +258,7 @@ fn take_out(n: Network, at: usize) -> Sent
             kind: kind,
             entries: es,
             used: used,
-            last: last,
+            last: kept,
         },
     }
 }
@@ -342,16 +342,24 @@ fn take_one(n: Network, e: Envelope, absent: Answer) -> Sent
     }
 }
 
+// The answer where there is nothing to drop: the duplicating kind is silent.
+fn when_absent(kind: Kind) -> Answer
+    ensures { λ r. ⌜ r ≡ absentOf kind ⌝ }
+{
+    match kind {
+        Kind::Ordered => Answer::Absent,
+        Kind::UnorderedDuplicating => Answer::Done,
+        Kind::UnorderedNonDuplicating => Answer::Absent,
+    }
+}
+
 pub fn on_drop(n: Network, e: Envelope) -> Sent
     requires { ⌜ NetReady n ⌝ }
     ensures { λ r. ⌜ r ≡ sentOf n (onDrop e (netView n)) ⌝ }
 {
     let kind = n.kind;
-    match kind {
-        Kind::Ordered => take_one(n, e, Answer::Absent),
-        Kind::UnorderedDuplicating => take_one(n, e, Answer::Done),
-        Kind::UnorderedNonDuplicating => take_one(n, e, Answer::Absent),
-    }
+    let absent = when_absent(kind);
+    take_one(n, e, absent)
 }
 
 pub fn on_deliver(n: Network, e: Envelope) -> Sent
@@ -360,6 +368,7 @@ pub fn on_deliver(n: Network, e: Envelope) -> Sent
 {
     let kind = n.kind;
     let es = n.entries;
+    let message = LastMessage::Delivered(e);
     match kind {
         Kind::Ordered => take_one(n, e, Answer::Absent),
         Kind::UnorderedDuplicating => Sent {
@@ -368,7 +377,7 @@ pub fn on_deliver(n: Network, e: Envelope) -> Sent
                 kind: kind,
                 entries: es,
                 used: n.used,
-                last: LastMessage::Delivered(e),
+                last: message,
             },
         },
         Kind::UnorderedNonDuplicating => take_one(n, e, Answer::Absent),
