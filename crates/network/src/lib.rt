@@ -9,9 +9,18 @@ use types::Message;
 use types::Number;
 use types::Payload;
 ghost use mathlib.Core.Path.{_≡_};
+ghost use mathlib.Core.Bool.{true, not};
 ghost use mathlib.Core.List.{[]};
+ghost use Prim.Native.Nat.{_≤_, _<_};
+ghost use lib.ListN.{take, getD, set};
+ghost use Rattle.lists.specs.Lists.{chain, lead, ins, grow, shrink};
+ghost use Rattle.types.specs.declared.Kind.the-variants.{Ordered};
 ghost use Rattle.types.specs.declared.LastMessage.the-variants.{Nothing};
-ghost use Rattle.network.specs.Views.{zeroEntry, networkOf};
+ghost use Rattle.types.specs.Order.{same};
+ghost use Rattle.rules.specs.Outcome.{done, base};
+ghost use Rattle.rules.specs.Network.{single, again, send, onDeliver, onDrop, len};
+ghost use Rattle.network.specs.Views.{zeroEntry, entryList, netView, networkOf, NetReady, sentOf, stands, lookUp};
+ghost use Rattle.network.specs.Parts.{passesOf, copiesOf, entered, fitting, takenAt, takenOr, absentOf};
 
 // Places from the used count on hold the zero entry.
 pub struct Network {
@@ -51,4 +60,349 @@ pub fn blank(kind: Kind) -> Network
         used: 0,
         last: LastMessage::Nothing,
     }
+}
+
+// What a walk passes over: entries that stand before the envelope, whose flow is not after its own, or that are not equal to it.
+enum Look {
+    Before,
+    UpToFlow,
+    Differs,
+}
+
+// Where an envelope is, or where it would stand.
+pub enum Found {
+    At(usize),
+    Free(usize),
+}
+
+fn passes(l: Look, e: Envelope, x: Entry) -> bool
+    ensures { λ r. ⌜ r ≡ passesOf l e x ⌝ }
+{
+    let v = x.envelope;
+    match l {
+        Look::Before => order::before(v, e),
+        Look::UpToFlow => !order::flow_before(e, v),
+        Look::Differs => !order::same_envelope(e, v),
+    }
+}
+
+// How many leading entries pass.
+fn scan(l: Look, entries: [Entry; 128], used: usize, e: Envelope) -> usize
+    requires { ⌜ used ≤ 128 ⌝ }
+    ensures { λ r. ⌜ r ≡ lead (passesOf l e) (take used entries) ⌝ }
+{
+    let mut i = 0;
+    while i < used {
+        let here = entries[i];
+        if !passes(l, e, here) {
+            return i;
+        }
+        i += 1;
+    }
+    i
+}
+
+// The entries ascend, so that a search by halves may take the place of the walk.
+pub fn look_up(entries: [Entry; 128], used: usize, e: Envelope) -> Found
+    requires { ⌜ (used ≤ 128) × (chain stands (take used entries) ≡ true) ⌝ }
+    ensures { λ r. ⌜ r ≡ lookUp e (take used entries) ⌝ }
+{
+    let at = scan(Look::Before, entries, used, e);
+    if at < used {
+        let here = entries[at];
+        let v = here.envelope;
+        if order::same_envelope(e, v) {
+            return Found::At(at);
+        }
+    }
+    Found::Free(at)
+}
+
+// The array with x at a place; what stood there and after it, up to the count, goes one place on.
+fn insert_at(entries: [Entry; 128], used: usize, at: usize, x: Entry) -> [Entry; 128]
+    requires { ⌜ (at ≤ used) × (used < 128) ⌝ }
+    ensures { λ r. ⌜ r ≡ grow used at x entries ⌝ }
+{
+    let mut es = entries;
+    let mut carry = x;
+    let mut i = at;
+    while i < used {
+        let here = es[i];
+        es[i] = carry;
+        carry = here;
+        i += 1;
+    }
+    es[used] = carry;
+    es
+}
+
+// The array without what stands at a place; what stood after it goes one place down, and the place that is freed is cleared.
+fn remove_at(entries: [Entry; 128], used: usize, at: usize) -> [Entry; 128]
+    requires { ⌜ (at < used) × (used ≤ 128) ⌝ }
+    ensures { λ r. ⌜ r ≡ shrink used at zeroEntry entries ⌝ }
+{
+    let mut es = entries;
+    let mut i = at;
+    while i + 1 < used {
+        es[i] = es[i + 1];
+        i += 1;
+    }
+    es[i] = zero_entry();
+    es
+}
+
+// A new entry at a place, if there is room.
+fn insert_entry(n: Network, at: usize, e: Envelope) -> Sent
+    requires { ⌜ NetReady n × (at ≤ n .used) ⌝ }
+    ensures { λ r. ⌜ r ≡ sentOf n (fitting n (ins at (single e) (entryList n))) ⌝ }
+{
+    let used = n.used;
+    if 128 <= used {
+        return Sent {
+            answer: Answer::NetworkFull,
+            network: n,
+        };
+    }
+    let es = n.entries;
+    let x = Entry {
+        envelope: e,
+        count: 1,
+    };
+    let grown = insert_at(es, used, at, x);
+    let kind = n.kind;
+    let last = n.last;
+    Sent {
+        answer: Answer::Done,
+        network: Network {
+            kind: kind,
+            entries: grown,
+            used: used + 1,
+            last: last,
+        },
+    }
+}
+
+// The copies that a send adds to an equal entry: a set holds one.
+fn copies(kind: Kind) -> u16
+    ensures { λ r. ⌜ r ≡ copiesOf kind ⌝ }
+{
+    match kind {
+        Kind::Ordered => 0,
+        Kind::UnorderedDuplicating => 0,
+        Kind::UnorderedNonDuplicating => 1,
+    }
+}
+
+// An equal entry is sent again, if its copies can be counted.
+fn count_up(n: Network, at: usize) -> Sent
+    requires { ⌜ NetReady n × (at < n .used) ⌝ }
+    ensures { λ r. ⌜ r ≡ sentOf n (fitting n (set (entryList n) at (again (n .kind) (getD (entryList n) at zeroEntry)))) ⌝ }
+{
+    let kind = n.kind;
+    let more = copies(kind);
+    let mut es = n.entries;
+    let x = es[at];
+    if 65535 - more < x.count {
+        return Sent {
+            answer: Answer::NetworkFull,
+            network: n,
+        };
+    }
+    let v = x.envelope;
+    es[at] = Entry {
+        envelope: v,
+        count: x.count + more,
+    };
+    let last = n.last;
+    Sent {
+        answer: Answer::Done,
+        network: Network {
+            kind: kind,
+            entries: es,
+            used: n.used,
+            last: last,
+        },
+    }
+}
+
+// One copy less of the entry at a place; the last one takes the entry along.
+fn take_out(n: Network, at: usize) -> Sent
+    requires { ⌜ NetReady n × (at < n .used) ⌝ }
+    ensures { λ r. ⌜ r ≡ sentOf n (done (entered n (takenAt at (entryList n)))) ⌝ }
+{
+    let mut es = n.entries;
+    let used = n.used;
+    let kind = n.kind;
+    let kept = n.last;
+    let x = es[at];
+    if x.count <= 1 {
+        let shrunk = remove_at(es, used, at);
+        return Sent {
+            answer: Answer::Done,
+            network: Network {
+                kind: kind,
+                entries: shrunk,
+                used: used - 1,
+                last: kept,
+            },
+        };
+    }
+    let v = x.envelope;
+    es[at] = Entry {
+        envelope: v,
+        count: x.count - 1,
+    };
+    Sent {
+        answer: Answer::Done,
+        network: Network {
+            kind: kind,
+            entries: es,
+            used: used,
+            last: kept,
+        },
+    }
+}
+
+// After its flow.
+fn send_ordered(n: Network, e: Envelope) -> Sent
+    requires { ⌜ NetReady n × (n .kind ≡ Ordered) ⌝ }
+    ensures { λ r. ⌜ r ≡ sentOf n (send (base .room) e (netView n)) ⌝ }
+{
+    let es = n.entries;
+    let at = scan(Look::UpToFlow, es, n.used, e);
+    insert_entry(n, at, e)
+}
+
+// Kinds 1 and 2: at its place.
+fn send_sorted(n: Network, e: Envelope) -> Sent
+    requires { ⌜ NetReady n × (n .kind ≡ Ordered → ⊥) ⌝ }
+    ensures { λ r. ⌜ r ≡ sentOf n (send (base .room) e (netView n)) ⌝ }
+{
+    let es = n.entries;
+    let used = n.used;
+    let f = look_up(es, used, e);
+    match f {
+        Found::At(at) => count_up(n, at),
+        Found::Free(at) => insert_entry(n, at, e),
+    }
+}
+
+pub fn send(n: Network, e: Envelope) -> Sent
+    requires { ⌜ NetReady n ⌝ }
+    ensures { λ r. ⌜ r ≡ sentOf n (send (base .room) e (netView n)) ⌝ }
+{
+    let kind = n.kind;
+    match kind {
+        Kind::Ordered => send_ordered(n, e),
+        Kind::UnorderedDuplicating => send_sorted(n, e),
+        Kind::UnorderedNonDuplicating => send_sorted(n, e),
+    }
+}
+
+// The place of the equal entry, or the count, where the entries ascend.
+fn sorted_place(entries: [Entry; 128], used: usize, e: Envelope) -> usize
+    requires { ⌜ (used ≤ 128) × (chain stands (take used entries) ≡ true) ⌝ }
+    ensures { λ r. ⌜ r ≡ lead (λ x. not (same e (x .envelope))) (take used entries) ⌝ }
+{
+    let f = look_up(entries, used, e);
+    match f {
+        Found::At(at) => at,
+        Found::Free(_) => used,
+    }
+}
+
+// The place of the first equal entry, or the count.
+fn equal_place(n: Network, e: Envelope) -> usize
+    requires { ⌜ NetReady n ⌝ }
+    ensures { λ r. ⌜ r ≡ lead (λ x. not (same e (x .envelope))) (entryList n) ⌝ }
+{
+    let es = n.entries;
+    let used = n.used;
+    let kind = n.kind;
+    match kind {
+        Kind::Ordered => scan(Look::Differs, es, used, e),
+        Kind::UnorderedDuplicating => sorted_place(es, used, e),
+        Kind::UnorderedNonDuplicating => sorted_place(es, used, e),
+    }
+}
+
+// One copy goes, or the answer is that of an absent message.
+fn take_one(n: Network, e: Envelope, absent: Answer) -> Sent
+    requires { ⌜ NetReady n ⌝ }
+    ensures { λ r. ⌜ r ≡ takenOr absent e n ⌝ }
+{
+    let used = n.used;
+    let at = equal_place(n, e);
+    if at < used {
+        return take_out(n, at);
+    }
+    Sent {
+        answer: absent,
+        network: n,
+    }
+}
+
+// The answer where there is nothing to drop: the duplicating kind is silent.
+fn when_absent(kind: Kind) -> Answer
+    ensures { λ r. ⌜ r ≡ absentOf kind ⌝ }
+{
+    match kind {
+        Kind::Ordered => Answer::Absent,
+        Kind::UnorderedDuplicating => Answer::Done,
+        Kind::UnorderedNonDuplicating => Answer::Absent,
+    }
+}
+
+pub fn on_drop(n: Network, e: Envelope) -> Sent
+    requires { ⌜ NetReady n ⌝ }
+    ensures { λ r. ⌜ r ≡ sentOf n (onDrop e (netView n)) ⌝ }
+{
+    let kind = n.kind;
+    let absent = when_absent(kind);
+    take_one(n, e, absent)
+}
+
+pub fn on_deliver(n: Network, e: Envelope) -> Sent
+    requires { ⌜ NetReady n ⌝ }
+    ensures { λ r. ⌜ r ≡ sentOf n (onDeliver e (netView n)) ⌝ }
+{
+    let kind = n.kind;
+    let es = n.entries;
+    let message = LastMessage::Delivered(e);
+    match kind {
+        Kind::Ordered => take_one(n, e, Answer::Absent),
+        Kind::UnorderedDuplicating => Sent {
+            answer: Answer::Done,
+            network: Network {
+                kind: kind,
+                entries: es,
+                used: n.used,
+                last: message,
+            },
+        },
+        Kind::UnorderedNonDuplicating => take_one(n, e, Answer::Absent),
+    }
+}
+
+fn wide(count: u16) -> u64
+    ensures { λ r. ⌜ (r ≡ count) × (r < 65536) ⌝ }
+{
+    count as u64
+}
+
+// Set size, sum of counts, or sum of flow lengths.
+pub fn len(n: Network) -> u64
+    requires { ⌜ n .used ≤ 128 ⌝ }
+    ensures { λ r. ⌜ r ≡ len (entryList n) ⌝ }
+{
+    let es = n.entries;
+    let used = n.used;
+    let mut sum: u64 = 0;
+    let mut i = 0;
+    while i < used {
+        let here = es[i];
+        sum += wide(here.count);
+        i += 1;
+    }
+    sum
 }
