@@ -1,14 +1,15 @@
--- What a walk over the first places of an array finds: one test of each element.
+-- What a walk over the first places of an array finds, and what stands last in them.
 -- Assumes nothing.
-use Prim.Native.Nat.{ℕ, suc, _+_, _≤_, _<_}
+use Prim.Native.Nat.{ℕ, suc, _+_, _-_, _≤_, _<_}
 use native.Mathlib.Numerals.{add-one}
 use native.Mathlib.Omega.{arith}
-use mathlib.Core.Path.{_≡_, refl, sym, ap, _∙_}
+use native.Mathlib.Decide.{decLt}
+use mathlib.Core.Path.{_≡_, refl, sym, ap, ap₂, _∙_}
 use mathlib.Core.Bool.{Bool, true, false, _&&_}
 use mathlib.Core.List.{List, [], _∷_, _++_, map}
 use lib.ListN.{length, take, drop, getD, drop-of-length-le}
 use lib.Seq.{drop-cons, getD-take, length-take-le, take-all}
-use Rattle.lists.specs.Lists.{all, every}
+use Rattle.lists.specs.Lists.{all, every, endsIn}
 
 pub every-append : (l m : List Bool) → every (l ++ m) ≡ (every l && every m)
 unfolding every
@@ -43,3 +44,36 @@ pub all-map : {A B : Type 0} (p : B → Bool) (f : A → B) (l : List A) → all
 unfolding all
 all-map p f [] = refl
 all-map p f (x ∷ l) = ap (λ (b : Bool). p (f x) && b) (all-map p f l)
+
+-- The last element, if there is one, by its place.
+module _ {A : Type 0} (p : A → Bool) where
+  ends-get : (l : List A) (d : A) (k : ℕ) → length l ≡ suc k → endsIn p l ≡ p (getD l k d)
+  unfolding endsIn
+  ends-get [] d k e = absurd (omega arith)
+  ends-get (x ∷ []) d ℕ.zero e = refl
+  ends-get (x ∷ []) d (suc k) e = absurd (omega arith)
+  ends-get (x ∷ y ∷ l) d ℕ.zero e = absurd (omega arith)
+  ends-get (x ∷ y ∷ l) d (suc k) e = ends-get (y ∷ l) d k (omega arith)
+
+  pub ends-none : (es : List A) (used : ℕ) → used < 1 → true ≡ endsIn p (take used es)
+  unfolding endsIn
+  ends-none es ℕ.zero h = refl
+  ends-none es (suc u) h = absurd (omega arith)
+
+  pub ends-last : (es : List A) (used : ℕ) (d : A) → used ≤ length es → 1 ≤ used → p (getD es (used - 1) d) ≡ endsIn p (take used es)
+  ends-last es used d fit h =
+      let n = length-take-le used es fit in
+      ap p (sym (getD-take used es (used - 1) d (omega arith))) ∙ sym (ends-get (take used es) d (used - 1) (omega arith))
+
+-- A walk that tests each element against the one before it.
+module _ {A : Type 0} (r : A → A → Bool) (es : List A) (d : A) where
+  pub pairs-on : (i : ℕ) → 1 ≤ i → ((k : ℕ) → k < i - 1 → r (getD es k d) (getD es (suc k) d) ≡ true) → r (getD es (i - 1) d) (getD es i d) ≡ true
+      → (k : ℕ) → k < i + 1 - 1 → r (getD es k d) (getD es (suc k) d) ≡ true
+  pairs-on i g f e k h = one (decLt k (i - 1))
+    where
+      one : Dec (k < i - 1) → r (getD es k d) (getD es (suc k) d) ≡ true
+      one (yes q) = f k q
+      one (no q) =
+          let a : k ≡ i - 1 = omega arith in
+          let b : suc k ≡ i = omega arith in
+          ap₂ (λ (x y : ℕ). r (getD es x d) (getD es y d)) a b ∙ e
