@@ -1,7 +1,7 @@
-use Rattle.rules.specs.Network.{kindNamed, nameOf}
-use Rattle.lists.specs.Lists.{choose}
 use mathlib.Core.Path.{sym, _∙_}
 use borrow.Author.Needs.{needs}
+use Rattle.lists.specs.Lists.{choose}
+use Rattle.rules.specs.Network.{kindNamed, nameOf}
 use Rattle.network_names.proofs.from_name.Statement.{statement}
 use Rattle.network_names.proofs.from_name.Tie as tie
 

@@ -1,7 +1,7 @@
-use borrow.Author.Needs.{needs}
 use Prim.Native.Nat.{_≤_, _-_}
 use mathlib.Core.Path.{_≡_, refl, sym, _∙_}
 use lib.ListN.{length, drop}
+use borrow.Author.Needs.{needs}
 use Rattle.rules.specs.Network.{sameBytes}
 use Rattle.network_names.proofs.Bytes.{other-length, same-turn, same-fails, same-end}
 use Rattle.network_names.proofs.same_bytes.Statement.{statement}

@@ -1,13 +1,13 @@
+use Prim.Native.Nat.{_≤_, _-_}
+use native.Mathlib.Omega.{arith}
 use mathlib.Core.Path.{ap, _≡_, refl, _∙_}
-use Rattle.network_names.specs.declared.Written.the-variants.{Bytes}
-use Rattle.lists.specs.Lists.{choose}
+use mathlib.Core.List.{_++_}
 use lib.Seq.{take-length}
 use lib.ListN.{length-set, length, take, drop}
-use native.Mathlib.Omega.{arith}
 use borrow.Author.Tests.{le-leb, lt-leb}
 use borrow.Author.Needs.{needs}
-use Prim.Native.Nat.{_≤_, _-_}
-use mathlib.Core.List.{_++_}
+use Rattle.lists.specs.Lists.{choose}
+use Rattle.network_names.specs.declared.Written.the-variants.{Bytes}
 use Rattle.network_names.specs.Names.{writtenAs, leftOn}
 use Rattle.network_names.proofs.Bytes.{over-turn}
 use Rattle.network_names.proofs.write_bytes.Statement.{statement}

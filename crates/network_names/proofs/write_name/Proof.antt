@@ -1,5 +1,5 @@
-use Rattle.rules.specs.Network.{nameOf}
 use borrow.Author.Needs.{needs}
+use Rattle.rules.specs.Network.{nameOf}
 use Rattle.network_names.proofs.write_name.Statement.{statement}
 use Rattle.network_names.proofs.write_name.Tie as tie
 
