@@ -7,7 +7,7 @@ use native.Mathlib.Decide.{decLt}
 use mathlib.Core.Path.{_≡_, refl, sym, ap, ap₂, _∙_}
 use mathlib.Core.Bool.{Bool, true, false}
 use mathlib.Core.List.{List, [], _∷_}
-use lib.ListN.{length, take, drop, getD, drop-of-length-le}
+use lib.ListN.{length, take, drop, getD, length-take, drop-of-length-le}
 use lib.Seq.{slice, slice-cons, getD-take, length-take-le, take-all}
 use lib.Dec.{ltb}
 use borrow.Author.Tests.{lt-ltb, le-ltb}
@@ -22,12 +22,21 @@ use Rattle.network_listing.specs.declared.Offer.the-variants as offer
 use Rattle.network_listing.specs.Listing.{listedFrom, opens, shows, offeredFrom}
 
 -- A count above the array's room names the whole array.
-pub take-min : {A : Type 0} (es : List A) (used : ℕ) → length es ≡ 128 → take (min used 128) es ≡ take used es
-take-min {A = A} es used room = go (decLt 128 used)
-  where
-    go : Dec (128 < used) → take (min used 128) es ≡ take used es
-    go (yes h) = take-all (min used 128) es (omega arith) ∙ sym (take-all used es (omega arith))
-    go (no h) = let e : min used 128 ≡ used = omega arith in rw e
+module _ (es : List Entry) (used u at : ℕ) (room : length es ≡ 128) (e : u ≡ min used 128) where
+  same-list : take u es ≡ take used es
+  same-list = go (decLt 128 used)
+    where
+      go : Dec (128 < used) → take u es ≡ take used es
+      go (yes h) = take-all u es (omega arith) ∙ sym (take-all used es (omega arith))
+      go (no h) = let f : u ≡ used = omega arith in rw f
+
+  pub listed-whole : (k : ℕ) → listedFrom at k (drop at (take u es)) ≡ listedFrom at k (drop at (take used es))
+  listed-whole k = rw same-list
+
+  pub offered-whole : (kind : Kind) → offeredFrom kind (take u es) (u - at) at ≡ offeredFrom kind (take used es) (length (take used es) - at) at
+  offered-whole kind =
+      let n : u ≡ length (take used es) = omega (arith, length-take used es) in
+      ap₂ (λ (l : List Entry) (m : ℕ). offeredFrom kind l (m - at) at) same-list n
 
 module _ (es : List Entry) (used i : ℕ) (u : used ≤ length es) where
   abbrev here : Entry

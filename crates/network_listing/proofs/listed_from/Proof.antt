@@ -1,13 +1,11 @@
-use Rattle.network_listing.proofs.Loops.{listed-found, listed-turn, listed-over}
-use Rattle.network_listing.specs.Listing.{listedFrom}
-use lib.Seq.{slice}
 use Prim.Native.Nat.{_-_}
-use mathlib.Core.Path.{_≡_, refl, sym, ap, _∙_}
+use mathlib.Core.Path.{_≡_, refl, sym, _∙_}
+use lib.Seq.{slice}
 use borrow.Author.Needs.{needs}
+use Rattle.network_listing.specs.Listing.{listedFrom}
+use Rattle.network_listing.proofs.Loops.{listed-found, listed-turn, listed-over}
 use Rattle.network_listing.proofs.listed_from.Statement.{statement}
 use Rattle.network_listing.proofs.listed_from.Tie as tie
-use Rattle.network_listing.proofs.listed_from.Reads as reads
-use Rattle.network_listing.proofs.listed_from.Lts as lts
 
 abbrev Inv-loop : tie.InvT-loop
 Inv-loop used at copy entries i₀ k₀ i k = listedFrom i k (slice i used entries) ≡ listedFrom at copy (slice at used entries)
@@ -15,47 +13,38 @@ Inv-loop used at copy entries i₀ k₀ i k = listedFrom i k (slice i used entri
 abbrev μ-loop : tie.MeasureT-loop
 μ-loop used at copy entries i₀ k₀ i k = used - i
 
--- src/lib.rt:52:5
 loop-holds : tie.Need-loop-holds Inv-loop μ-loop
 loop-holds c = refl
 
--- src/lib.rt:53:20
 mul-here : tie.Need-mul-here Inv-loop μ-loop
 mul-here c = search needs
 
--- src/lib.rt:53:20
 array-copy-out-here : tie.Need-array-copy-out-here Inv-loop μ-loop
 array-copy-out-here c = search needs
 
--- src/lib.rt:58:23
 add-t16 : tie.Need-add-t16 Inv-loop μ-loop
 add-t16 c = search needs
 
--- src/lib.rt:60:13
 returns : tie.Need-returns Inv-loop μ-loop
-returns c = 
+returns c =
     let a = c .before .before .before .before .before .before .args in
     let l = c .before .before .before .before .before .loop in
     sym (sym (l .inv) ∙ listed-found (a .t1) (a .used) (l .i) (search needs) (l .k) (search needs) (search needs))
 
--- src/lib.rt:63:9
 add-i : tie.Need-add-i Inv-loop μ-loop
 add-i c = search needs
 
--- src/lib.rt:52:5
 loop-less : tie.Need-loop-less Inv-loop μ-loop
 loop-less c = search needs
 
--- src/lib.rt:52:5
 loop-again : tie.Need-loop-again Inv-loop μ-loop
-loop-again c = 
+loop-again c =
     let a = c .before .before .before .before .before .before .args in
     let l = c .before .before .before .before .before .loop in
     listed-turn (a .t1) (a .used) (l .i) (search needs) (l .k) (search needs) (search needs) ∙ l .inv
 
--- src/lib.rt:46:1
 returns-2 : tie.Need-returns-2 Inv-loop μ-loop
-returns-2 c = 
+returns-2 c =
     let a = c .before .before .args in
     let l = c .before .loop in
     sym (sym (l .inv) ∙ listed-over (a .t1) (a .used) (l .i) (search needs) (l .k) (search needs))

@@ -1,19 +1,12 @@
-use Rattle.network_listing.specs.Listing.{opens}
-use Rattle.network.specs.Views.{zeroEntry}
-use lib.ListN.{getD}
-use Prim.Native.Nat.{ℕ}
-use Rattle.network_listing.proofs.Loops.{offered-found, offered-turn, offered-over}
-use Rattle.network_listing.specs.Listing.{offeredFrom}
-use lib.ListN.{take}
-use Prim.Native.Nat.{_-_}
+use Prim.Native.Nat.{ℕ, _-_}
 use mathlib.Core.Path.{_≡_, refl, sym, ap, _∙_}
+use lib.ListN.{getD, take}
 use borrow.Author.Needs.{needs}
+use Rattle.network.specs.Views.{zeroEntry}
+use Rattle.network_listing.specs.Listing.{opens, offeredFrom}
+use Rattle.network_listing.proofs.Loops.{offered-found, offered-turn, offered-over}
 use Rattle.network_listing.proofs.offered_from.Statement.{statement}
 use Rattle.network_listing.proofs.offered_from.Tie as tie
-use Rattle.network_listing.proofs.offered_from.Reads as reads
-use Rattle.network_listing.proofs.offered_from.Lts as lts
-use Rattle.network_listing.proofs.is_offered.Reads as is-offered-reads
-use Rattle.network_listing.proofs.place_before.Reads as place-before-reads
 
 abbrev Inv-loop : tie.InvT-loop
 Inv-loop kind used at entries i₀ i = offeredFrom kind (take used entries) (used - i) i ≡ offeredFrom kind (take used entries) (used - at) at
@@ -21,65 +14,52 @@ Inv-loop kind used at entries i₀ i = offeredFrom kind (take used entries) (use
 abbrev μ-loop : tie.MeasureT-loop
 μ-loop kind used at entries i₀ i = used - i
 
--- src/lib.rt:103:5
 loop-holds : tie.Need-loop-holds Inv-loop μ-loop
 loop-holds c = refl
 
--- src/lib.rt:104:13
 place-before-requires : tie.Need-place-before-requires Inv-loop μ-loop
 place-before-requires c κs = search needs
 
--- src/lib.rt:105:17
 mul-p : tie.Need-mul-p Inv-loop μ-loop
 mul-p c = search needs
 
--- src/lib.rt:105:17
 array-copy-out-p : tie.Need-array-copy-out-p Inv-loop μ-loop
 array-copy-out-p c = search needs
 
--- src/lib.rt:106:20
 mul-here : tie.Need-mul-here Inv-loop μ-loop
 mul-here c = search needs
 
--- src/lib.rt:106:20
 array-copy-out-here : tie.Need-array-copy-out-here Inv-loop μ-loop
 array-copy-out-here c = search needs
 
--- src/lib.rt:107:12
 is-offered-requires : tie.Need-is-offered-requires Inv-loop μ-loop
 is-offered-requires c κs = search needs
 
--- src/lib.rt:109:35
 add-t19 : tie.Need-add-t19 Inv-loop μ-loop
 add-t19 c = search needs
 
--- src/lib.rt:109:13
 returns : tie.Need-returns Inv-loop μ-loop
-returns c = 
+returns c =
     let a = c .before .before .before .before .before .before .before .before .args in
     let l = c .before .before .before .before .before .before .before .loop in
     let o = sym (c .before .before .is-offered .ensures ∙ ap (λ (j : ℕ). opens (a .kind) (l .i) (getD (a .t2) j zeroEntry) (getD (a .t2) (l .i) zeroEntry)) (c .before .before .before .before .before .place-before .ensures)) in
     sym (sym (l .inv) ∙ offered-found (a .t2) (a .used) (l .i) (search needs) (a .kind) (search needs) (o ∙ c .before .if1 .taken))
 
--- src/lib.rt:111:9
 add-i : tie.Need-add-i Inv-loop μ-loop
 add-i c = search needs
 
--- src/lib.rt:103:5
 loop-less : tie.Need-loop-less Inv-loop μ-loop
 loop-less c = search needs
 
--- src/lib.rt:103:5
 loop-again : tie.Need-loop-again Inv-loop μ-loop
-loop-again c = 
+loop-again c =
     let a = c .before .before .before .before .before .before .before .args in
     let l = c .before .before .before .before .before .before .loop in
     let o = sym (c .before .is-offered .ensures ∙ ap (λ (j : ℕ). opens (a .kind) (l .i) (getD (a .t2) j zeroEntry) (getD (a .t2) (l .i) zeroEntry)) (c .before .before .before .before .place-before .ensures)) in
     offered-turn (a .t2) (a .used) (l .i) (search needs) (a .kind) (search needs) (o ∙ c .if1 .left) ∙ l .inv
 
--- src/lib.rt:98:1
 returns-2 : tie.Need-returns-2 Inv-loop μ-loop
-returns-2 c = 
+returns-2 c =
     let a = c .before .before .args in
     let l = c .before .loop in
     sym (sym (l .inv) ∙ offered-over (a .t2) (a .used) (l .i) (search needs) (a .kind) (search needs))
