@@ -1,0 +1,22 @@
+use mathlib.Core.Path.{_∙_}
+use borrow.Author.Needs.{needs}
+use Rattle.lists.proofs.Places.{length-mapped}
+use Rattle.network_listing.specs.Listing.{listedNext}
+use Rattle.network_listing.proofs.Loops.{listed-whole}
+use Rattle.network_listing.proofs.next_listed.Statement.{statement}
+use Rattle.network_listing.proofs.next_listed.Tie as tie
+
+in-use-requires : tie.Need-in-use-requires
+in-use-requires c κs = search needs
+
+listed-from-requires : tie.Need-listed-from-requires
+listed-from-requires c κs = search needs
+
+returns : tie.Need-returns
+unfolding listedNext
+returns c =
+    let a = c .before .before .before .args in
+    c .listed-from .ensures ∙ listed-whole (a .n .entries) (a .n .used) (c .before .in-use .result) (a .c .entry) (search (needs, length-mapped)) (c .before .in-use .ensures) (a .c .copy)
+
+pub next-listed-spec : {M : Type 1} → statement M
+next-listed-spec = tie.close (tie.spec in-use-requires listed-from-requires returns)
