@@ -9,7 +9,7 @@ use mathlib.Core.List.{List}
 use lib.ListN.{length, getD, set}
 use lib.Dec.{leb}
 use borrow.Author.Tests.{le-leb, lt-leb}
-use Rattle.lists.specs.Lists.{choose, any, lead, ins}
+use Rattle.lists.specs.Lists.{choose, chain, lead, ins}
 use Rattle.types.specs.declared.Envelope.{Envelope}
 use Rattle.types.specs.declared.Entry.{Entry}
 use Rattle.types.specs.declared.Kind.{Kind}
@@ -21,14 +21,16 @@ use Rattle.types.specs.Order.{cmpFlow, isLess, same}
 use Rattle.types.specs.Answers.{answerOf}
 use Rattle.rules.specs.Outcome.{Outcome, done, guard, base}
 use Rattle.rules.specs.Network.{Net, single, again, put, sending, send, isDuplicating, remove, dropping, delivering, present, onDeliver, onDrop}
+use Rattle.rules.specs.WellFormed.{inOrder}
 use Rattle.rules.proofs.Network.{put-ordered, put-new, put-again, remove-last, remove-one, remove-absent}
+use Rattle.entries.specs.Search.{stands}
+use Rattle.entries.proofs.Tests.{any-yes, any-no}
+use Rattle.entries.proofs.Lookup.{There, Missing}
 use Rattle.network.specs.declared.Network.{Network}
 use Rattle.network.specs.declared.Sent.{Sent}
 use Rattle.network.specs.Views.{zeroEntry, entryList, netView, networkOf, NetLaid, sentOf}
 use Rattle.network.specs.Parts.{entered, fitting, takenAt, takenOr, absentOf}
-use Rattle.network.proofs.Tests.{any-yes, any-no}
 use Rattle.network.proofs.Changes.{used-is, held}
-use Rattle.network.proofs.Lookup.{There, Missing}
 
 -- ---- the kinds
 pub one-ordered : (k : Kind) → k ≡ Ordered → isDuplicating k ≡ false
@@ -48,6 +50,13 @@ set-sorted k h o = let z : _≡_ {A = ℕ} 0 1 = cc in omega arith
 
 pub counted-sorted : (k : Kind) → k ≡ UnorderedNonDuplicating → k ≡ Ordered → ⊥
 counted-sorted k h o = let z : _≡_ {A = ℕ} 0 1 = cc in omega arith
+
+-- On kinds 1 and 2 the entries ascend.
+pub ascend : (k : Kind) (l : List Entry) → (k ≡ Ordered → ⊥) → chain (inOrder k) l ≡ true → chain stands l ≡ true
+unfolding inOrder
+ascend Ordered l n h = absurd (n refl)
+ascend UnorderedDuplicating l n h = h
+ascend UnorderedNonDuplicating l n h = h
 
 -- ---- a send
 pub sent-by : (n : Network) (e : Envelope) (l : List Entry) → put (n .kind) e (entryList n) ≡ l → (r : Sent) → r ≡ sentOf n (fitting n l) → r ≡ sentOf n (send (base .room) e (netView n))

@@ -18,11 +18,11 @@ use Rattle.types.specs.declared.Answer.the-variants.{Done, NetworkFull}
 use Rattle.types.specs.Answers.{answerOf}
 use Rattle.rules.specs.Outcome.{Outcome, done, refused, guard, base}
 use Rattle.rules.specs.Network.{Net, single, again, lowered, fits}
+use Rattle.entries.proofs.Tests.{all-ins, all-set}
 use Rattle.network.specs.declared.Network.{Network}
 use Rattle.network.specs.declared.Sent.{Sent}
 use Rattle.network.specs.Views.{zeroEntry, entryList, netView, networkOf, NetLaid, NetReady, sentOf}
 use Rattle.network.specs.Parts.{copiesOf, entered, fitting, takenAt}
-use Rattle.network.proofs.Tests.{all-ins, all-set}
 
 -- A send of an equal entry, as the code counts it.
 pub again-is : (k : Kind) (x : Entry) → again k x ≡ record { envelope = x .envelope; count = x .count + copiesOf k }

@@ -2,26 +2,19 @@
 -- Assumes nothing.
 use Prim.Native.Nat.{ℕ, _≤_}
 use mathlib.Core.Path.{_≡_}
-use mathlib.Core.Bool.{Bool, true, not}
+use mathlib.Core.Bool.{true}
 use mathlib.Core.List.{List}
 use lib.ListN.{length, take}
 use lib.Dec.{leb}
-use Rattle.lists.specs.Lists.{choose, any, all, chain, lead, pad}
-use Rattle.types.specs.declared.Message.the-variants.{Deliver}
-use Rattle.types.specs.declared.Envelope.{Envelope}
+use Rattle.lists.specs.Lists.{all, chain, pad}
 use Rattle.types.specs.declared.Entry.{Entry}
-use Rattle.types.specs.Order.{cmpEnvelope, isLess, same}
 use Rattle.types.specs.Answers.{answerOf}
 use Rattle.rules.specs.Outcome.{Outcome, done, refused}
 use Rattle.rules.specs.Network.{Net}
 use Rattle.rules.specs.WellFormed.{inOrder}
+pub use Rattle.entries.specs.Search.{zeroEntry}
 use Rattle.network.specs.declared.Network.{Network}
 use Rattle.network.specs.declared.Sent.{Sent}
-use Rattle.network.specs.declared.Found.{Found}
-use Rattle.network.specs.declared.Found.the-variants.{At, Free}
-
-abbrev pub zeroEntry : Entry
-zeroEntry = record { envelope = record { src = record { 0 = 0 }; dst = record { 0 = 0 }; msg = Deliver (record { 0 = 0 }) (record { 0 = 0 }) }; count = 0 }
 
 -- The used entries.
 abbrev pub entryList : Network → List Entry
@@ -48,14 +41,3 @@ pub record NetReady (n : Network) : Type 0 where
 abbrev pub sentOf : Network → Outcome Net → Sent
 sentOf n (done m) = record { answer = answerOf 0; network = networkOf m }
 sentOf n (refused k) = record { answer = answerOf k; network = n }
-
--- ---- the look-up on kinds 1 and 2
--- An entry stands before another.
-abbrev pub stands : Entry → Entry → Bool
-stands x y = isLess (cmpEnvelope (x .envelope) (y .envelope))
-
--- Whether an equal entry is there, and how many stand before the envelope.
-unfoldable pub lookUp : Envelope → List Entry → Found
-lookUp e l =
-    let at = lead (λ x. isLess (cmpEnvelope (x .envelope) e)) l in
-    choose (any (λ x. same e (x .envelope)) l) (At at) (Free at)

@@ -1,4 +1,6 @@
 // The network: an ordered array of entries in a struct with its used count, and the last message of the duplicating kind.
+use entries::Found;
+use entries::Look;
 use types::Answer;
 use types::Entry;
 use types::Envelope;
@@ -9,18 +11,18 @@ use types::Message;
 use types::Number;
 use types::Payload;
 ghost use mathlib.Core.Path.{_≡_};
-ghost use mathlib.Core.Bool.{true, not};
+ghost use mathlib.Core.Bool.{not};
 ghost use mathlib.Core.List.{[]};
 ghost use Prim.Native.Nat.{_≤_, _<_};
-ghost use lib.ListN.{take, getD, set};
-ghost use Rattle.lists.specs.Lists.{chain, lead, ins, grow, shrink};
+ghost use lib.ListN.{getD, set};
+ghost use Rattle.lists.specs.Lists.{lead, ins};
 ghost use Rattle.types.specs.declared.Kind.the-variants.{Ordered};
 ghost use Rattle.types.specs.declared.LastMessage.the-variants.{Nothing};
 ghost use Rattle.types.specs.Order.{same};
 ghost use Rattle.rules.specs.Outcome.{done, base};
 ghost use Rattle.rules.specs.Network.{single, again, send, onDeliver, onDrop, len};
-ghost use Rattle.network.specs.Views.{zeroEntry, entryList, netView, networkOf, NetReady, sentOf, stands, lookUp};
-ghost use Rattle.network.specs.Parts.{passesOf, copiesOf, entered, fitting, takenAt, takenOr, absentOf};
+ghost use Rattle.network.specs.Views.{zeroEntry, entryList, netView, networkOf, NetReady, sentOf};
+ghost use Rattle.network.specs.Parts.{copiesOf, entered, fitting, takenAt, takenOr, absentOf};
 
 // Places from the used count on hold the zero entry.
 pub struct Network {
@@ -62,95 +64,6 @@ pub fn blank(kind: Kind) -> Network
     }
 }
 
-// What a walk passes over: entries that stand before the envelope, whose flow is not after its own, or that are not equal to it.
-enum Look {
-    Before,
-    UpToFlow,
-    Differs,
-}
-
-// Where an envelope is, or where it would stand.
-pub enum Found {
-    At(usize),
-    Free(usize),
-}
-
-fn passes(l: Look, e: Envelope, x: Entry) -> bool
-    ensures { λ r. ⌜ r ≡ passesOf l e x ⌝ }
-{
-    let v = x.envelope;
-    match l {
-        Look::Before => order::before(v, e),
-        Look::UpToFlow => !order::flow_before(e, v),
-        Look::Differs => !order::same_envelope(e, v),
-    }
-}
-
-// How many leading entries pass.
-fn scan(l: Look, entries: [Entry; 128], used: usize, e: Envelope) -> usize
-    requires { ⌜ used ≤ 128 ⌝ }
-    ensures { λ r. ⌜ r ≡ lead (passesOf l e) (take used entries) ⌝ }
-{
-    let mut i = 0;
-    while i < used {
-        let here = entries[i];
-        if !passes(l, e, here) {
-            return i;
-        }
-        i += 1;
-    }
-    i
-}
-
-// The entries ascend, so that a search by halves may take the place of the walk.
-pub fn look_up(entries: [Entry; 128], used: usize, e: Envelope) -> Found
-    requires { ⌜ (used ≤ 128) × (chain stands (take used entries) ≡ true) ⌝ }
-    ensures { λ r. ⌜ r ≡ lookUp e (take used entries) ⌝ }
-{
-    let at = scan(Look::Before, entries, used, e);
-    if at < used {
-        let here = entries[at];
-        let v = here.envelope;
-        if order::same_envelope(e, v) {
-            return Found::At(at);
-        }
-    }
-    Found::Free(at)
-}
-
-// The array with x at a place; what stood there and after it, up to the count, goes one place on.
-fn insert_at(entries: [Entry; 128], used: usize, at: usize, x: Entry) -> [Entry; 128]
-    requires { ⌜ (at ≤ used) × (used < 128) ⌝ }
-    ensures { λ r. ⌜ r ≡ grow used at x entries ⌝ }
-{
-    let mut es = entries;
-    let mut carry = x;
-    let mut i = at;
-    while i < used {
-        let here = es[i];
-        es[i] = carry;
-        carry = here;
-        i += 1;
-    }
-    es[used] = carry;
-    es
-}
-
-// The array without what stands at a place; what stood after it goes one place down, and the place that is freed is cleared.
-fn remove_at(entries: [Entry; 128], used: usize, at: usize) -> [Entry; 128]
-    requires { ⌜ (at < used) × (used ≤ 128) ⌝ }
-    ensures { λ r. ⌜ r ≡ shrink used at zeroEntry entries ⌝ }
-{
-    let mut es = entries;
-    let mut i = at;
-    while i + 1 < used {
-        es[i] = es[i + 1];
-        i += 1;
-    }
-    es[i] = zero_entry();
-    es
-}
-
 // A new entry at a place, if there is room.
 fn insert_entry(n: Network, at: usize, e: Envelope) -> Sent
     requires { ⌜ NetReady n × (at ≤ n .used) ⌝ }
@@ -168,7 +81,7 @@ fn insert_entry(n: Network, at: usize, e: Envelope) -> Sent
         envelope: e,
         count: 1,
     };
-    let grown = insert_at(es, used, at, x);
+    let grown = entries::insert_at(es, used, at, x);
     let kind = n.kind;
     let last = n.last;
     Sent {
@@ -236,7 +149,8 @@ fn take_out(n: Network, at: usize) -> Sent
     let kept = n.last;
     let x = es[at];
     if x.count <= 1 {
-        let shrunk = remove_at(es, used, at);
+        let z = zero_entry();
+        let shrunk = entries::remove_at(es, used, at, z);
         return Sent {
             answer: Answer::Done,
             network: Network {
@@ -269,7 +183,7 @@ fn send_ordered(n: Network, e: Envelope) -> Sent
     ensures { λ r. ⌜ r ≡ sentOf n (send (base .room) e (netView n)) ⌝ }
 {
     let es = n.entries;
-    let at = scan(Look::UpToFlow, es, n.used, e);
+    let at = entries::scan(Look::UpToFlow, es, n.used, e);
     insert_entry(n, at, e)
 }
 
@@ -280,7 +194,7 @@ fn send_sorted(n: Network, e: Envelope) -> Sent
 {
     let es = n.entries;
     let used = n.used;
-    let f = look_up(es, used, e);
+    let f = entries::look_up(es, used, e);
     match f {
         Found::At(at) => count_up(n, at),
         Found::Free(at) => insert_entry(n, at, e),
@@ -299,18 +213,6 @@ pub fn send(n: Network, e: Envelope) -> Sent
     }
 }
 
-// The place of the equal entry, or the count, where the entries ascend.
-fn sorted_place(entries: [Entry; 128], used: usize, e: Envelope) -> usize
-    requires { ⌜ (used ≤ 128) × (chain stands (take used entries) ≡ true) ⌝ }
-    ensures { λ r. ⌜ r ≡ lead (λ x. not (same e (x .envelope))) (take used entries) ⌝ }
-{
-    let f = look_up(entries, used, e);
-    match f {
-        Found::At(at) => at,
-        Found::Free(_) => used,
-    }
-}
-
 // The place of the first equal entry, or the count.
 fn equal_place(n: Network, e: Envelope) -> usize
     requires { ⌜ NetReady n ⌝ }
@@ -320,9 +222,9 @@ fn equal_place(n: Network, e: Envelope) -> usize
     let used = n.used;
     let kind = n.kind;
     match kind {
-        Kind::Ordered => scan(Look::Differs, es, used, e),
-        Kind::UnorderedDuplicating => sorted_place(es, used, e),
-        Kind::UnorderedNonDuplicating => sorted_place(es, used, e),
+        Kind::Ordered => entries::scan(Look::Differs, es, used, e),
+        Kind::UnorderedDuplicating => entries::sorted_place(es, used, e),
+        Kind::UnorderedNonDuplicating => entries::sorted_place(es, used, e),
     }
 }
 

@@ -5,12 +5,11 @@ use mathlib.Core.Path.{_≡_, sym, _∙_}
 use mathlib.Core.Bool.{true, false}
 use lib.ListN.{length, getD}
 use Rattle.lists.proofs.Places.{lead-first}
-use Rattle.network.specs.Views.{zeroEntry}
-use Rattle.network.specs.Parts.{passesOf}
+use Rattle.entries.specs.Search.{zeroEntry, passesOf}
 use borrow.Author.Count.{below-none, below-more}
 use borrow.Author.Tests.{not-true, not-false}
-use Rattle.network.proofs.scan.Statement.{statement}
-use Rattle.network.proofs.scan.Tie as tie
+use Rattle.entries.proofs.scan.Statement.{statement}
+use Rattle.entries.proofs.scan.Tie as tie
 
 abbrev Inv-loop : tie.InvT-loop
 Inv-loop l used e entries i₀ i = (i ≤ used) × ((k : ℕ) → k < i → passesOf l e (getD entries k zeroEntry) ≡ true)

@@ -15,22 +15,12 @@ use Rattle.types.specs.declared.Envelope.{Envelope}
 use Rattle.types.specs.declared.Entry.{Entry}
 use Rattle.types.specs.declared.Order.{Order}
 use Rattle.types.specs.declared.Order.the-variants.{Less, Equal, Greater}
-use Rattle.types.specs.declared.Kind.{Kind}
-use Rattle.types.specs.declared.Kind.the-variants.{Ordered, UnorderedDuplicating, UnorderedNonDuplicating}
 use Rattle.types.specs.Order.{cmpEnvelope, isLess, isEqual, same}
 use Rattle.types.proofs.Laws.{less-trans, not-up-to}
-use Rattle.rules.specs.WellFormed.{inOrder}
-use Rattle.network.specs.declared.Found.{Found}
-use Rattle.network.specs.declared.Found.the-variants.{At, Free}
-use Rattle.network.specs.Views.{zeroEntry, stands, lookUp}
-use Rattle.network.proofs.Tests.{any-yes, any-no, first-at, first-missing}
-
--- On kinds 1 and 2 the entries ascend.
-pub ascend : (k : Kind) (l : List Entry) → (k ≡ Ordered → ⊥) → chain (inOrder k) l ≡ true → chain stands l ≡ true
-unfolding inOrder
-ascend Ordered l n h = absurd (n refl)
-ascend UnorderedDuplicating l n h = h
-ascend UnorderedNonDuplicating l n h = h
+use Rattle.entries.specs.declared.Found.{Found}
+use Rattle.entries.specs.declared.Found.the-variants.{At, Free}
+use Rattle.entries.specs.Search.{zeroEntry, stands, lookUp}
+use Rattle.entries.proofs.Tests.{any-yes, any-no, first-at, first-missing}
 
 -- ---- equal, before, after
 less-other : (o : Order) → isLess o ≡ true → isEqual o ≡ false

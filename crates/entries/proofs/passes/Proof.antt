@@ -1,8 +1,8 @@
 use mathlib.Core.Bool.{not}
 use mathlib.Core.Path.{ap, _∙_}
 use borrow.Author.Needs.{needs}
-use Rattle.network.proofs.passes.Statement.{statement}
-use Rattle.network.proofs.passes.Tie as tie
+use Rattle.entries.proofs.passes.Statement.{statement}
+use Rattle.entries.proofs.passes.Tie as tie
 
 enum-told : tie.Need-enum-told
 enum-told c = search needs
