@@ -1,4 +1,6 @@
-use Rattle.network.proofs.ByKind.{delivered-one, delivered-copy, one-ordered, one-counted, set-kind}
+use mathlib.Core.Path.{ap}
+use Rattle.rules.specs.Network.{isDuplicating}
+use Rattle.network.proofs.ByKind.{delivered-one, delivered-copy}
 use borrow.Author.Needs.{needs}
 use Rattle.network.proofs.on_deliver.Statement.{statement}
 use Rattle.network.proofs.on_deliver.Tie as tie
@@ -19,19 +21,22 @@ take-one-requires-2 : tie.Need-take-one-requires-2
 take-one-requires-2 c κs = search needs
 
 returns : tie.Need-returns
+unfolding isDuplicating
 returns c =
     let s = c .before .before .before .before in
-    delivered-one (s .args .n) (s .pre .laid) (s .args .e) (one-ordered (s .args .n .kind) (c .before .enum-told .given .1)) (c .take-one .result) (c .take-one .ensures)
+    delivered-one (s .args .n) (s .pre .laid) (s .args .e) (ap isDuplicating (c .before .enum-told .given .1)) (c .take-one .result) (c .take-one .ensures)
 
 returns-2 : tie.Need-returns-2
+unfolding isDuplicating
 returns-2 c =
     let s = c .before .before .before in
-    delivered-copy (s .args .n) (s .pre .laid) (s .args .e) (set-kind (s .args .n .kind) (c .enum-told2 .given .1))
+    delivered-copy (s .args .n) (s .pre .laid) (s .args .e) (ap isDuplicating (c .enum-told2 .given .1))
 
 returns-3 : tie.Need-returns-3
+unfolding isDuplicating
 returns-3 c =
     let s = c .before .before .before .before in
-    delivered-one (s .args .n) (s .pre .laid) (s .args .e) (one-counted (s .args .n .kind) (c .before .enum-told3 .given .1)) (c .take-one2 .result) (c .take-one2 .ensures)
+    delivered-one (s .args .n) (s .pre .laid) (s .args .e) (ap isDuplicating (c .before .enum-told3 .given .1)) (c .take-one2 .result) (c .take-one2 .ensures)
 
 pub on-deliver-spec : {M : Type 1} → statement M
 on-deliver-spec =
