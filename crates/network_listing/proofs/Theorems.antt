@@ -1,9 +1,9 @@
 -- A walk from the first place to the end gives the rules' lists: all envelopes, each as often as it is there, and those that can be delivered.
 -- Assumes nothing.
-use Prim.Native.Nat.{ℕ, zero, suc, _+_, _-_, _≤_}
+use Prim.Native.Nat.{ℕ, _+_, _-_, _≤_}
 use native.Mathlib.Omega.{arith}
 use mathlib.Core.Path.{_≡_, refl, sym, ap, _∙_, subst}
-use mathlib.Core.Bool.{Bool, true, false}
+use mathlib.Core.Bool.{true}
 use mathlib.Core.List.{List, [], _∷_, map}
 use lib.ListN.{length, drop, getD}
 use lib.Seq.{getD-drop}
@@ -18,12 +18,8 @@ use Rattle.rules.specs.WellFormed.{inOrder}
 use Rattle.network.specs.declared.Network.{Network}
 use Rattle.network.specs.Views.{zeroEntry, entryList, netView}
 use Rattle.network_listing.specs.declared.Cursor.{Cursor}
-use Rattle.network_listing.specs.declared.Step.{Step}
-use Rattle.network_listing.specs.declared.Step.the-variants as step
-use Rattle.network_listing.specs.declared.Offer.{Offer}
-use Rattle.network_listing.specs.declared.Offer.the-variants as offer
 use Rattle.network_listing.specs.Walk.{Walk, over, on}
-use Rattle.network_listing.specs.Listing.{start, listedNext, opens, shows, offeredNext}
+use Rattle.network_listing.specs.Listing.{start, opens, shows}
 use Rattle.network_listing.proofs.Fronts.{breaks, fronts-are}
 use Rattle.network_listing.proofs.Walks.{Listed, Offered, shown, drop-more, listed-left, offered-left}
 
