@@ -1,0 +1,4 @@
+pub mod Loops
+pub mod Fronts
+pub mod Walks
+pub mod Theorems
