@@ -1,7 +1,7 @@
 -- What a handler's answer holds: its link, its commands, and the struct of an outcome.
 -- Assumes nothing.
-use Prim.Native.Nat.{ℕ}
-use mathlib.Core.Bool.{Bool, true, false}
+use mathlib.Core.Path.{_≡_}
+use mathlib.Core.Bool.{true, false}
 use mathlib.Core.List.{List, [], _++_, map}
 use lib.ListN.{length, take}
 use Rattle.lists.specs.Lists.{pad}
@@ -10,7 +10,7 @@ use Rattle.rules.specs.Outcome.{Outcome, done, refused}
 use Rattle.rules.specs.Link as rules
 use Rattle.durable.specs.declared.Durable.{Durable}
 use Rattle.durable.specs.declared.Stored.{Stored}
-use Rattle.durable.specs.Views.{durableView, durableAs, storedView}
+use Rattle.durable.specs.Views.{durableView, durableAs, storedView, durableLaid}
 use Rattle.link.specs.declared.Link.{Link}
 use Rattle.link.specs.declared.LinkCommand.{LinkCommand}
 use Rattle.link.specs.declared.LinkCommand.the-variants.{Set, Cancel, Send, Save}
@@ -25,6 +25,11 @@ linkView l = record { durable = durableView (l .durable); state = l .state }
 
 abbrev pub linkAs : rules.Link → Link
 linkAs l = record { durable = durableAs (l .durable); state = l .state }
+
+-- A durable part that is laid out, as the test finds it and as the lists say it.
+pub record Whole (d : Durable) : Type 0 where
+  pub test : durableLaid d ≡ true
+  pub same : d ≡ durableAs (durableView d)
 
 -- ---- commands, the used ones of 33 places; the others are zero
 abbrev pub slot : LinkCommand → CommandSlot

@@ -1,4 +1,6 @@
 // The link's handlers: Start, a message, a timeout. Each takes one actor's link by value and answers the next one.
+use durable::Durable;
+use durable::Stored;
 use durable::drop_acked;
 use durable::fresh_durable;
 use durable::last_taken;
@@ -6,12 +8,10 @@ use durable::post;
 use durable::save_value;
 use durable::stored_or_fresh;
 use durable::take_number;
-use durable::Durable;
-use durable::Stored;
-use inner::react;
-use inner::react_at_start;
 use inner::Reaction;
 use inner::Table;
+use inner::react;
+use inner::react_at_start;
 use types::Answer;
 use types::Id;
 use types::InnerCommand;
@@ -20,18 +20,20 @@ use types::Number;
 use types::Payload;
 ghost use mathlib.Core.Path.{_≡_};
 ghost use mathlib.Core.Bool.{true, false};
-ghost use mathlib.Core.List.{_++_, _∷_, [], map};
+ghost use mathlib.Core.List.{List, _++_, _∷_, []};
 ghost use Prim.Native.Nat.{_≤_, _<_};
-ghost use Rattle.lists.specs.Lists.{any};
+ghost use Rattle.lists.specs.Lists.{choose, any};
 ghost use Rattle.types.specs.declared.Id.{Id};
+ghost use Rattle.types.specs.declared.Payload.{Payload};
+ghost use Rattle.types.specs.declared.Message.the-variants.{Deliver};
 ghost use Rattle.types.specs.declared.Answer.the-variants.{Done};
 ghost use Rattle.types.specs.declared.InnerCommand.the-variants as inner;
-ghost use Rattle.rules.specs.Outcome.{base};
+ghost use Rattle.rules.specs.Outcome.{bind, base};
 ghost use Rattle.rules.specs.Inner.{ignored};
 ghost use Rattle.rules.specs.Link as rules;
 ghost use Rattle.inner.specs.Views.{rulesOf, replyOf, tableOk};
 ghost use Rattle.durable.specs.Views.{durableView, durableAs, storedView, durableLaid, storedLaid};
-ghost use Rattle.link.specs.Views.{linkView, commandsIn, commandsOf, outputAs, didAs, startLink};
+ghost use Rattle.link.specs.Views.{linkView, commandsIn, commandsOf, outputAs, didAs, startLink, Whole};
 
 // The volatile part is the inner actor's state.
 pub struct Link {
@@ -73,3 +75,420 @@ pub struct Did {
     pub commands: Commands,
 }
 
+// ---- commands
+fn no_commands() -> Commands
+    ensures { λ r. ⌜ r ≡ commandsOf [] ⌝ }
+{
+    Commands {
+        list: [CommandSlot {
+            command: LinkCommand::Set(0),
+        }; 33],
+        used: 0,
+    }
+}
+
+// One more command.
+fn push(cs: Commands, c: LinkCommand) -> Commands
+    requires { ⌜ (cs ≡ commandsOf (commandsIn cs)) × (cs .used < 33) ⌝ }
+    ensures { λ r. ⌜ r ≡ commandsOf (commandsIn cs ++ c ∷ []) ⌝ }
+{
+    let used = cs.used;
+    let mut list = cs.list;
+    list[used] = CommandSlot { command: c };
+    Commands {
+        list: list,
+        used: used + 1,
+    }
+}
+
+// ---- inner output, in order
+fn going_on(d: Durable, cs: Commands) -> Output
+    ensures { λ r. ⌜ r ≡ record { going = true; answer = Done; durable = d; commands = cs } ⌝ }
+{
+    Output {
+        going: true,
+        answer: Answer::Done,
+        durable: d,
+        commands: cs,
+    }
+}
+
+fn stopped(answer: Answer) -> Output
+    ensures { λ r. ⌜ r ≡ record { going = false; answer = answer; durable = durableAs rules.fresh; commands = commandsOf [] } ⌝ }
+{
+    let d = fresh_durable();
+    let cs = no_commands();
+    Output {
+        going: false,
+        answer: answer,
+        durable: d,
+        commands: cs,
+    }
+}
+
+// A Send takes the next number, sends, and becomes pending: 6 before 7.
+fn send_one(d: Durable, cs: Commands, r: Id, p: Payload) -> Output
+    requires { ⌜ Whole d × (cs ≡ commandsOf (commandsIn cs)) × (cs .used < 33) ⌝ }
+    ensures { λ x. ⌜ ((i : Id) → x ≡ outputAs (commandsIn cs) (rules.process (base .limits) i (durableView d) (inner.Send r p ∷ []))) ⌝ }
+{
+    let next = d.next;
+    if 18446744073709551615 <= next.0 {
+        return stopped(Answer::NumbersUsedUp);
+    }
+    if 32 <= d.pending.used {
+        return stopped(Answer::PendingFull);
+    }
+    let posted = post(d, r, p);
+    let more = push(cs, LinkCommand::Send(r, Message::Deliver(next, p)));
+    going_on(posted, more)
+}
+
+// One command of the inner actor.
+fn process_one(d: Durable, cs: Commands, c: InnerCommand) -> Output
+    requires { ⌜ Whole d × (cs ≡ commandsOf (commandsIn cs)) × (cs .used < 33) ⌝ }
+    ensures { λ x. ⌜ ((i : Id) → x ≡ outputAs (commandsIn cs) (rules.process (base .limits) i (durableView d) (c ∷ []))) ⌝ }
+{
+    match c {
+        InnerCommand::SetTimer(t) => {
+            let more = push(cs, LinkCommand::Set(t));
+            going_on(d, more)
+        }
+        InnerCommand::CancelTimer(t) => {
+            let more = push(cs, LinkCommand::Cancel(t));
+            going_on(d, more)
+        }
+        InnerCommand::Send(r, p) => send_one(d, cs, r, p),
+        InnerCommand::Save(v) => {
+            let saved = save_value(d, v);
+            going_on(saved, cs)
+        }
+    }
+}
+
+// All commands of a reaction.
+fn process(d: Durable, cs: Commands, r: Reaction) -> Output
+    requires { ⌜ Whole d × (cs ≡ commandsOf (commandsIn cs)) × (cs .used ≤ 1) × (r .used ≤ 4) ⌝ }
+    ensures { λ x. ⌜ ((i : Id) → x ≡ outputAs (commandsIn cs) (rules.process (base .limits) i (durableView d) (replyOf r .out))) ⌝ }
+{
+    let used = r.used;
+    let told = r.commands;
+    let mut e = d;
+    let mut out = cs;
+    let mut i = 0;
+    while i < used {
+        let s = told[i];
+        let c = s.command;
+        let o = process_one(e, out, c);
+        if !o.going {
+            return o;
+        }
+        e = o.durable;
+        out = o.commands;
+        i += 1;
+    }
+    going_on(e, out)
+}
+
+fn is_durable(c: InnerCommand) -> bool
+    ensures { λ x. ⌜ x ≡ rules.durably c ⌝ }
+{
+    match c {
+        InnerCommand::SetTimer(_) => false,
+        InnerCommand::CancelTimer(_) => false,
+        InnerCommand::Send(_, _) => true,
+        InnerCommand::Save(_) => true,
+    }
+}
+
+// Whether there is any Send or Save.
+fn saves(r: Reaction) -> bool
+    requires { ⌜ r .used ≤ 4 ⌝ }
+    ensures { λ x. ⌜ x ≡ any rules.durably (replyOf r .out) ⌝ }
+{
+    let used = r.used;
+    let told = r.commands;
+    let mut i = 0;
+    while i < used {
+        let s = told[i];
+        let c = s.command;
+        if is_durable(c) {
+            return true;
+        }
+        i += 1;
+    }
+    false
+}
+
+// The output of a reaction, saved once after all of it if there was any Send or Save.
+fn output_of(d: Durable, cs: Commands, r: Reaction) -> Output
+    requires { ⌜ Whole d × (cs ≡ commandsOf (commandsIn cs)) × (cs .used ≤ 1) × (r .used ≤ 4) ⌝ }
+    ensures { λ x. ⌜ ((i : Id) → x ≡ outputAs (commandsIn cs) (rules.output (base .limits) i (durableView d) (replyOf r .out))) ⌝ }
+{
+    let o = process(d, cs, r);
+    if !o.going {
+        return o;
+    }
+    if saves(r) {
+        let e = o.durable;
+        let out = o.commands;
+        let more = push(out, LinkCommand::Save);
+        return going_on(e, more);
+    }
+    o
+}
+
+// ---- handlers
+// A refusal: the link is the one that came.
+fn refuse(l: Link, answer: Answer) -> Did
+    ensures { λ r. ⌜ r ≡ record { answer = answer; link = l; touched = false; commands = commandsOf [] } ⌝ }
+{
+    let cs = no_commands();
+    Did {
+        answer: answer,
+        link: l,
+        touched: false,
+        commands: cs,
+    }
+}
+
+// By the touched mark and the commands, never by comparing states.
+fn is_ignored(r: Reaction) -> bool
+    requires { ⌜ r .used ≤ 4 ⌝ }
+    ensures { λ x. ⌜ x ≡ ignored (replyOf r) ⌝ }
+{
+    if r.touched {
+        return false;
+    }
+    r.used == 0
+}
+
+// Set Network, then the inner actor's commands.
+fn start_with(d: Durable, r: Reaction) -> Did
+    requires { ⌜ Whole d × (r .used ≤ 4) ⌝ }
+    ensures { λ x. ⌜ ((i : Id) → x ≡ didAs (record { durable = d; state = 0 }) (rules.starting (base .limits) i (durableView d) (replyOf r))) ⌝ }
+{
+    let none = no_commands();
+    let first = push(none, LinkCommand::Set(31));
+    let o = output_of(d, first, r);
+    if !o.going {
+        let a = o.answer;
+        let l = Link {
+            durable: d,
+            state: 0,
+        };
+        return refuse(l, a);
+    }
+    let e = o.durable;
+    let out = o.commands;
+    Did {
+        answer: Answer::Done,
+        link: Link {
+            durable: e,
+            state: r.state,
+        },
+        touched: true,
+        commands: out,
+    }
+}
+
+// Start, on what is stored. A refusal hands back the link that it set out with.
+pub fn on_start(table: Table, stored: Stored) -> Did
+    requires { ⌜ (tableOk table ≡ true) × (storedLaid stored ≡ true) ⌝ }
+    ensures { λ x. ⌜ ((i : Id) → x ≡ didAs (startLink stored) (rules.onStart (base .limits) i (rulesOf table) (storedView stored))) ⌝ }
+{
+    let d = stored_or_fresh(stored);
+    let saved = d.inner;
+    let r = react_at_start(table, saved);
+    start_with(d, r)
+}
+
+// Ack(n) goes to s, and nothing more.
+fn ack_only(l: Link, s: Id, n: Number) -> Did
+    requires { ⌜ Whole (l .durable) ⌝ }
+    ensures { λ x. ⌜ ((v : List rules.Event) → x ≡ didAs l (rules.acking (linkView l) s n v)) ⌝ }
+{
+    let none = no_commands();
+    let cs = push(none, LinkCommand::Send(s, Message::Ack(n)));
+    Did {
+        answer: Answer::Done,
+        link: l,
+        touched: false,
+        commands: cs,
+    }
+}
+
+// The inner state after a message was taken.
+fn next_state(r: Reaction, state: u8) -> u8
+    ensures { λ x. ⌜ x ≡ choose (r .touched) (r .state) state ⌝ }
+{
+    if r.touched {
+        return r.state;
+    }
+    state
+}
+
+// Message n of s is taken: its Ack first, the output, and the durable part saved.
+fn take_message(l: Link, s: Id, n: Number, r: Reaction) -> Did
+    requires { ⌜ Whole (l .durable) × (s .0 < 8) × (r .used ≤ 4) ⌝ }
+    ensures { λ x. ⌜ ((i : Id) (p : Payload) → x ≡ didAs l (bind (rules.output (base .limits) i (rules.taking s n (durableView (l .durable))) (replyOf r .out)) (rules.takenBy i (linkView l) s n p (replyOf r)))) ⌝ }
+{
+    let d = l.durable;
+    let t = take_number(d, s, n);
+    let none = no_commands();
+    let first = push(none, LinkCommand::Send(s, Message::Ack(n)));
+    let o = output_of(t, first, r);
+    if !o.going {
+        let a = o.answer;
+        return refuse(l, a);
+    }
+    let e = o.durable;
+    let out = o.commands;
+    let more = push(out, LinkCommand::Save);
+    let state = next_state(r, l.state);
+    Did {
+        answer: Answer::Done,
+        link: Link {
+            durable: e,
+            state: state,
+        },
+        touched: true,
+        commands: more,
+    }
+}
+
+// Message n of s was handed to the inner actor, which gave r.
+fn handed(l: Link, s: Id, n: Number, r: Reaction) -> Did
+    requires { ⌜ Whole (l .durable) × (s .0 < 8) × (r .used ≤ 4) ⌝ }
+    ensures { λ x. ⌜ ((i : Id) (p : Payload) → x ≡ didAs l (rules.handing (base .limits) i (linkView l) s n p (replyOf r))) ⌝ }
+{
+    if is_ignored(r) {
+        return ack_only(l, s, n);
+    }
+    take_message(l, s, n, r)
+}
+
+// Deliver(n, p) from s. Up to the last number taken, it is acked only.
+fn deliver(table: Table, l: Link, s: Id, n: Number, p: Payload) -> Did
+    requires { ⌜ (tableOk table ≡ true) × Whole (l .durable) × (s .0 < 8) ⌝ }
+    ensures { λ x. ⌜ ((i : Id) → x ≡ didAs l (rules.onMsg (base .limits) i (rulesOf table) (linkView l) s (Deliver n p))) ⌝ }
+{
+    let d = l.durable;
+    let last = last_taken(d, s);
+    if n.0 <= last.0 {
+        return ack_only(l, s, n);
+    }
+    let r = react(table, 2, l.state, s, p.0);
+    handed(l, s, n, r)
+}
+
+// Ack(n), whoever sent it: pending n is removed, the durable part is saved.
+fn acknowledge(l: Link, n: Number) -> Did
+    requires { ⌜ Whole (l .durable) ⌝ }
+    ensures { λ x. ⌜ x ≡ didAs l (rules.ackedBy (linkView l) (rules.acked n (durableView (l .durable)))) ⌝ }
+{
+    let d = l.durable;
+    let e = drop_acked(d, n);
+    let none = no_commands();
+    let cs = push(none, LinkCommand::Save);
+    Did {
+        answer: Answer::Done,
+        link: Link {
+            durable: e,
+            state: l.state,
+        },
+        touched: true,
+        commands: cs,
+    }
+}
+
+// A message from a source that is an actor.
+pub fn on_msg(table: Table, link: Link, source: Id, message: Message) -> Did
+    requires { ⌜ (tableOk table ≡ true) × (durableLaid (link .durable) ≡ true) × (source .0 < 8) ⌝ }
+    ensures { λ x. ⌜ ((i : Id) → x ≡ didAs link (rules.onMsg (base .limits) i (rulesOf table) (linkView link) source message)) ⌝ }
+{
+    match message {
+        Message::Deliver(n, p) => deliver(table, link, source, n, p),
+        Message::Ack(n) => acknowledge(link, n),
+    }
+}
+
+// Set Network, then every pending message again.
+fn resend(l: Link) -> Did
+    requires { ⌜ Whole (l .durable) ⌝ }
+    ensures { λ x. ⌜ x ≡ didAs l (rules.resending (linkView l)) ⌝ }
+{
+    let ps = l.durable.pending;
+    let used = ps.used;
+    let records = ps.records;
+    let none = no_commands();
+    let mut cs = push(none, LinkCommand::Set(31));
+    let mut i = 0;
+    while i < used {
+        let q = records[i];
+        let n = q.number;
+        let p = q.payload;
+        let r = q.dst;
+        cs = push(cs, LinkCommand::Send(r, Message::Deliver(n, p)));
+        i += 1;
+    }
+    Did {
+        answer: Answer::Done,
+        link: l,
+        touched: false,
+        commands: cs,
+    }
+}
+
+// A user timer ran out, and the inner actor gave r. Its new state is thrown away.
+fn timed(l: Link, r: Reaction) -> Did
+    requires { ⌜ Whole (l .durable) × (r .used ≤ 4) ⌝ }
+    ensures { λ x. ⌜ ((i : Id) → x ≡ didAs l (bind (rules.output (base .limits) i (durableView (l .durable)) (replyOf r .out)) (rules.timedBy (linkView l)))) ⌝ }
+{
+    let d = l.durable;
+    let none = no_commands();
+    let o = output_of(d, none, r);
+    if !o.going {
+        let a = o.answer;
+        return refuse(l, a);
+    }
+    let e = o.durable;
+    let out = o.commands;
+    Did {
+        answer: Answer::Done,
+        link: Link {
+            durable: e,
+            state: l.state,
+        },
+        touched: true,
+        commands: out,
+    }
+}
+
+// Nothing happens.
+fn idle(l: Link) -> Did
+    requires { ⌜ Whole (l .durable) ⌝ }
+    ensures { λ x. ⌜ x ≡ didAs l (rules.idling (linkView l)) ⌝ }
+{
+    let cs = no_commands();
+    Did {
+        answer: Answer::Done,
+        link: l,
+        touched: false,
+        commands: cs,
+    }
+}
+
+// Timer 31 is Network; the others are the inner actor's.
+pub fn on_timeout(table: Table, link: Link, timer: u8) -> Did
+    requires { ⌜ (tableOk table ≡ true) × (durableLaid (link .durable) ≡ true) ⌝ }
+    ensures { λ x. ⌜ ((i : Id) → x ≡ didAs link (rules.onTimeout (base .limits) i (rulesOf table) (linkView link) timer)) ⌝ }
+{
+    if timer == 31 {
+        return resend(link);
+    }
+    let r = react(table, 3, link.state, Id(0), timer as u32);
+    if is_ignored(r) {
+        return idle(link);
+    }
+    timed(link, r)
+}

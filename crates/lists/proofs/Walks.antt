@@ -5,11 +5,11 @@ use native.Mathlib.Numerals.{add-one}
 use native.Mathlib.Omega.{arith}
 use native.Mathlib.Decide.{decLt}
 use mathlib.Core.Path.{_≡_, refl, sym, ap, ap₂, _∙_}
-use mathlib.Core.Bool.{Bool, true, false, _&&_}
+use mathlib.Core.Bool.{Bool, true, false, not, _&&_, _||_}
 use mathlib.Core.List.{List, [], _∷_, _++_, map}
 use lib.ListN.{length, take, drop, getD, drop-of-length-le}
 use lib.Seq.{drop-cons, getD-take, length-take-le, take-all}
-use Rattle.lists.specs.Lists.{all, every, endsIn}
+use Rattle.lists.specs.Lists.{any, all, every, endsIn}
 
 pub every-append : (l m : List Bool) → every (l ++ m) ≡ (every l && every m)
 unfolding every
@@ -77,3 +77,13 @@ module _ {A : Type 0} (r : A → A → Bool) (es : List A) (d : A) where
           let a : k ≡ i - 1 = omega arith in
           let b : suc k ≡ i = omega arith in
           ap₂ (λ (x y : ℕ). r (getD es x d) (getD es y d)) a b ∙ e
+
+-- Some element passes where not all fail.
+pub any-not-all : {A : Type 0} (p : A → Bool) (l : List A) → any p l ≡ not (all (λ (x : A). not (p x)) l)
+unfolding any all
+any-not-all p [] = refl
+any-not-all {A} p (x ∷ l) = go (p x) (any-not-all p l)
+  where
+    go : (b : Bool) → any p l ≡ not (all (λ (x : A). not (p x)) l) → (b || any p l) ≡ not (not b && all (λ (x : A). not (p x)) l)
+    go true e = refl
+    go false e = e

@@ -1,9 +1,9 @@
 -- The test taken apart into its six parts, and what it says: a network that passes is laid out.
 -- Assumes nothing.
-use Prim.Native.Nat.{ℕ, zero, suc, _-_, _≤_, min}
+use Prim.Native.Nat.{ℕ, zero, suc, _-_, _≤_}
 use native.Mathlib.Omega.{arith}
 use mathlib.Core.Path.{_≡_, refl, sym, ap, ap₂, _∙_}
-use mathlib.Core.Bool.{Bool, true, false, _&&_, and-assoc}
+use mathlib.Core.Bool.{Bool, true, and-assoc}
 use mathlib.Core.List.{List, [], _∷_, _++_}
 use lib.ListN.{length, take, drop, replicate, length-take, length-drop, take-append-drop}
 use lib.Seq.{slice, take-all, drop-at}
@@ -13,11 +13,10 @@ use Rattle.lists.specs.Lists.{all, chain, every, pad}
 use Rattle.lists.proofs.Members.{and-both}
 use Rattle.lists.proofs.Places.{laid-length}
 use Rattle.types.specs.declared.Entry.{Entry}
-use Rattle.types.specs.declared.Envelope.{Envelope}
 use Rattle.types.specs.Order.{same, cmpEnvelope}
 use Rattle.types.proofs.Laws.{same-is}
 use Rattle.rules.specs.Outcome.{base}
-use Rattle.rules.specs.WellFormed.{sourceKnown, countOk, inOrder, lastOk, netOk}
+use Rattle.rules.specs.WellFormed.{inOrder, lastOk, netOk}
 use Rattle.network.specs.declared.Network.{Network}
 use Rattle.network.specs.Views.{zeroEntry, netView, NetLaid}
 use Rattle.network_formed.specs.declared.Test.the-variants.{Unused, Source, Count}

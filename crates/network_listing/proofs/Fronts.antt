@@ -1,7 +1,5 @@
 -- On kind 0, in canonical order, the fronts are the first entry and each whose flow is another than that of the entry before it.
 -- Assumes nothing.
-use Prim.Native.Nat.{ℕ}
-use native.Mathlib.Omega.{arith}
 use mathlib.Core.Path.{_≡_, refl, sym, ap, _∙_}
 use mathlib.Core.Logic.{⊎-elim}
 use mathlib.Core.Bool.{Bool, true, false, not, true≢false, false≢true}

@@ -1,12 +1,12 @@
 -- What a turn of each listing's loop does, over the first used places of an array.
 -- Assumes nothing.
-use Prim.Native.Nat.{ℕ, zero, suc, _+_, _-_, _≤_, _<_, min}
+use Prim.Native.Nat.{ℕ, suc, _+_, _-_, _≤_, _<_, min}
 use native.Mathlib.Omega.{arith}
 use native.Mathlib.Numerals.{add-one}
 use native.Mathlib.Decide.{decLt}
-use mathlib.Core.Path.{_≡_, refl, sym, ap, ap₂, _∙_}
-use mathlib.Core.Bool.{Bool, true, false}
-use mathlib.Core.List.{List, [], _∷_}
+use mathlib.Core.Path.{_≡_, sym, ap₂, _∙_}
+use mathlib.Core.Bool.{true, false}
+use mathlib.Core.List.{List}
 use lib.ListN.{length, take, drop, getD, length-take, drop-of-length-le}
 use lib.Seq.{slice, slice-cons, getD-take, length-take-le, take-all}
 use lib.Dec.{ltb}
@@ -30,13 +30,13 @@ module _ (es : List Entry) (used u at : ℕ) (room : length es ≡ 128) (e : u �
       go (yes h) = take-all u es (omega arith) ∙ sym (take-all used es (omega arith))
       go (no h) = let f : u ≡ used = omega arith in rw f
 
-  pub listed-whole : (k : ℕ) → listedFrom at k (drop at (take u es)) ≡ listedFrom at k (drop at (take used es))
-  listed-whole k = rw same-list
+  pub listed-whole : (k : ℕ) (r : Step) → r ≡ listedFrom at k (drop at (take u es)) → r ≡ listedFrom at k (drop at (take used es))
+  listed-whole k r h = h ∙ rw same-list
 
-  pub offered-whole : (kind : Kind) → offeredFrom kind (take u es) (u - at) at ≡ offeredFrom kind (take used es) (length (take used es) - at) at
-  offered-whole kind =
+  pub offered-whole : (kind : Kind) (r : Offer) → r ≡ offeredFrom kind (take u es) (u - at) at → r ≡ offeredFrom kind (take used es) (length (take used es) - at) at
+  offered-whole kind r h =
       let n : u ≡ length (take used es) = omega (arith, length-take used es) in
-      ap₂ (λ (l : List Entry) (m : ℕ). offeredFrom kind l (m - at) at) same-list n
+      h ∙ ap₂ (λ (l : List Entry) (m : ℕ). offeredFrom kind l (m - at) at) same-list n
 
 module _ (es : List Entry) (used i : ℕ) (u : used ≤ length es) where
   abbrev here : Entry

@@ -1,29 +1,28 @@
 -- A walk from the first place to the end gives the rules' lists: all envelopes, each as often as it is there, and those that can be delivered.
 -- Assumes nothing.
-use Prim.Native.Nat.{ℕ, zero, suc, _+_, _-_, _≤_}
+use Prim.Native.Nat.{ℕ, _+_, _-_, _≤_}
 use native.Mathlib.Omega.{arith}
 use mathlib.Core.Path.{_≡_, refl, sym, ap, _∙_, subst}
-use mathlib.Core.Bool.{Bool, true, false}
+use mathlib.Core.Bool.{true}
 use mathlib.Core.List.{List, [], _∷_, map}
 use lib.ListN.{length, drop, getD}
 use lib.Seq.{getD-drop}
 use borrow.Author.Tests.{ne-eqb}
 use Rattle.lists.specs.Lists.{choose, chain}
+use Rattle.lists.proofs.Chains.{is-chain}
 use Rattle.types.specs.declared.Envelope.{Envelope}
 use Rattle.types.specs.declared.Entry.{Entry}
 use Rattle.types.specs.declared.Kind.{Kind}
 use Rattle.types.specs.declared.Kind.the-variants.{Ordered, UnorderedDuplicating, UnorderedNonDuplicating}
 use Rattle.rules.specs.Network.{listing, deliverable, deliverables, fronts}
-use Rattle.rules.specs.WellFormed.{inOrder}
+use Rattle.rules.specs.Outcome.{Room}
+use Rattle.rules.specs.WellFormed.{inOrder, netOk}
+use Rattle.rules.proofs.FormedNetwork.{net-is}
 use Rattle.network.specs.declared.Network.{Network}
 use Rattle.network.specs.Views.{zeroEntry, entryList, netView}
 use Rattle.network_listing.specs.declared.Cursor.{Cursor}
-use Rattle.network_listing.specs.declared.Step.{Step}
-use Rattle.network_listing.specs.declared.Step.the-variants as step
-use Rattle.network_listing.specs.declared.Offer.{Offer}
-use Rattle.network_listing.specs.declared.Offer.the-variants as offer
 use Rattle.network_listing.specs.Walk.{Walk, over, on}
-use Rattle.network_listing.specs.Listing.{start, listedNext, opens, shows, offeredNext}
+use Rattle.network_listing.specs.Listing.{start, opens, shows}
 use Rattle.network_listing.proofs.Fronts.{breaks, fronts-are}
 use Rattle.network_listing.proofs.Walks.{Listed, Offered, shown, drop-more, listed-left, offered-left}
 
@@ -77,6 +76,9 @@ shown-is UnorderedNonDuplicating l h = shown-runs UnorderedNonDuplicating l l 0 
 pub offered-all : (n : Network) → chain (inOrder (n .kind)) (entryList n) ≡ true → Offered n 0 (deliverables (netView n))
 unfolding deliverables
 offered-all n h = rw (← shown-is (n .kind) (entryList n) h) (offered-left n (length (entryList n)) 0 (omega arith))
+
+pub formed-offered : (c : Room) (k : ℕ) (n : Network) → netOk c k (netView n) ≡ true → Offered n 0 (deliverables (netView n))
+formed-offered c k n h = offered-all n (is-chain (inOrder (n .kind)) (entryList n) (net-is c k (netView n) h .order))
 
 -- ---- from a place there is one walk
 module _ {C A : Type 0} (ends : C → Type 0) (tells : C → A → C → Type 0)

@@ -3,12 +3,11 @@
 use Prim.Native.Nat.{ℕ, zero, suc, _+_, _-_, _≤_, _<_}
 use native.Mathlib.Omega.{arith}
 use native.Mathlib.Numerals.{add-one}
-use mathlib.Core.Path.{_≡_, refl, sym, ap, ap₂, _∙_, subst}
+use mathlib.Core.Path.{_≡_, refl, sym, ap, _∙_}
 use mathlib.Core.Bool.{Bool, true, false}
 use mathlib.Core.List.{List, [], _∷_, _++_}
 use lib.ListN.{length, drop, getD, replicate, length-append, length-replicate, List·getD-append, getD-replicate}
-use lib.Seq.{drop-cons, drop-nil, drop-drop, drop-append-add, getD-drop}
-use lib.Dec.{ltb}
+use lib.Seq.{drop-cons, drop-nil, drop-drop, drop-append-add}
 use borrow.Author.Tests.{lt-ltb, le-ltb}
 use Rattle.lists.specs.Lists.{choose}
 use Rattle.types.specs.declared.Envelope.{Envelope}
@@ -18,12 +17,10 @@ use Rattle.rules.specs.Network.{listing}
 use Rattle.network.specs.declared.Network.{Network}
 use Rattle.network.specs.Views.{zeroEntry, entryList}
 use Rattle.network_listing.specs.declared.Cursor.{Cursor}
-use Rattle.network_listing.specs.declared.Step.{Step}
 use Rattle.network_listing.specs.declared.Step.the-variants as step
-use Rattle.network_listing.specs.declared.Offer.{Offer}
 use Rattle.network_listing.specs.declared.Offer.the-variants as offer
 use Rattle.network_listing.specs.Walk.{Walk, over, on}
-use Rattle.network_listing.specs.Listing.{listedFrom, listedNext, opens, shows, offeredFrom, offeredNext}
+use Rattle.network_listing.specs.Listing.{listedFrom, listedNext, shows, offeredFrom, offeredNext}
 
 -- Two places at which the same is told begin the same walk.
 walk-same : {C A : Type 0} {ends : C → Type 0} {tells : C → A → C → Type 0} {c d : C} {l : List A}

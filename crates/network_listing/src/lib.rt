@@ -114,6 +114,7 @@ fn offered_from(kind: Kind, entries: [Entry; 128], used: usize, at: usize) -> Of
 }
 
 // The deliverable listing from an entry on: the whole set, each distinct envelope once, or the front of each flow.
+// On kind 0 the entries of a flow stand together in a well-formed network, so that the entry before tells a front.
 pub fn next_deliverable(n: Network, at: usize) -> Offer
     ensures { λ r. ⌜ r ≡ offeredNext n at ⌝ }
 {

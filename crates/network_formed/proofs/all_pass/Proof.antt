@@ -1,3 +1,5 @@
+-- `all_pass` meets its contract. What is left from a place on decides, and each turn tests one entry.
+-- Assumes nothing.
 use Prim.Native.Nat.{_-_}
 use mathlib.Core.Path.{_≡_, refl, sym, _∙_}
 use lib.Seq.{slice}

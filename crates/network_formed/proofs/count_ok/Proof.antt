@@ -1,3 +1,5 @@
+-- `count_ok` meets its contract. On kind 2 the upper end needs no test, since the count has 16 bits.
+-- Assumes nothing.
 use mathlib.Core.Bool.{and-true}
 use mathlib.Core.Path.{sym}
 use borrow.Author.Tests.{le-leb}

@@ -1,3 +1,5 @@
+-- `in_order` meets its contract. What is left from the entry before i on decides, and each turn tests one pair.
+-- Assumes nothing.
 use Prim.Native.Nat.{_-_, _≤_}
 use mathlib.Core.Path.{_≡_, refl, sym, _∙_}
 use lib.Seq.{slice}

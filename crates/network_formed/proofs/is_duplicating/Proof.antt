@@ -1,3 +1,5 @@
+-- `is_duplicating` meets its contract. Each arm knows the kind.
+-- Assumes nothing.
 use borrow.Author.Needs.{needs}
 use Rattle.rules.specs.Network.{isDuplicating}
 use Rattle.network_formed.proofs.is_duplicating.Statement.{statement}

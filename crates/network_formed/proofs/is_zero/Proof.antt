@@ -1,3 +1,5 @@
+-- `is_zero` meets its contract. The count and then the envelope decide.
+-- Assumes nothing.
 use mathlib.Core.Path.{ap, _∙_}
 use borrow.Author.Tests.{ne-eqb, eq-eqb}
 use borrow.Author.Needs.{needs}

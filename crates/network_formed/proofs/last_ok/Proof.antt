@@ -1,3 +1,5 @@
+-- `last_ok` meets its contract. No last message is fine; one is fine on kind 1 from a known source.
+-- Assumes nothing.
 use mathlib.Core.Path.{sym, _∙_}
 use borrow.Author.Tests.{not-true, not-false}
 use borrow.Author.Needs.{needs}

@@ -1,3 +1,5 @@
+-- `net_ok` meets its contract. Each part that fails decides, and the last part decides where the five before it hold.
+-- Assumes nothing.
 use mathlib.Core.Bool.{false, and-true}
 use mathlib.Core.Path.{_≡_, sym, _∙_}
 use lib.ListN.{length}

@@ -1,3 +1,5 @@
+-- `passes` meets its contract. Each arm knows the test.
+-- Assumes nothing.
 use borrow.Author.Needs.{needs}
 use Rattle.network_formed.specs.Formed.{passOf}
 use Rattle.network_formed.proofs.passes.Statement.{statement}

@@ -1,3 +1,5 @@
+-- `source_known` meets its contract. The test is the definition's.
+-- Assumes nothing.
 use mathlib.Core.Path.{refl}
 use borrow.Author.Needs.{needs}
 use Rattle.rules.specs.WellFormed.{sourceKnown}

@@ -1,3 +1,5 @@
+-- `stands_before` meets its contract. Each arm knows the kind.
+-- Assumes nothing.
 use mathlib.Core.Bool.{not}
 use mathlib.Core.Path.{ap}
 use borrow.Author.Needs.{needs}

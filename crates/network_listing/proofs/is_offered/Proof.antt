@@ -1,3 +1,5 @@
+-- `is_offered` meets its contract. Each arm knows the kind.
+-- Assumes nothing.
 use mathlib.Core.Bool.{not}
 use mathlib.Core.Path.{ap}
 use borrow.Author.Tests.{ne-eqb}

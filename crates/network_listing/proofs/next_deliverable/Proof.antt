@@ -1,5 +1,5 @@
-use Prim.Native.Nat.{_-_}
-use mathlib.Core.Path.{_∙_}
+-- `next_deliverable` meets its contract. The first places of the array that can be in use are the used ones.
+-- Assumes nothing.
 use borrow.Author.Needs.{needs}
 use Rattle.lists.proofs.Places.{length-mapped}
 use Rattle.network_listing.specs.Listing.{offeredNext}
@@ -17,7 +17,7 @@ returns : tie.Need-returns
 unfolding offeredNext
 returns c =
     let a = c .before .before .before .args in
-    c .offered-from .ensures ∙ offered-whole (a .n .entries) (a .n .used) (c .before .in-use .result) (a .at) (search (needs, length-mapped)) (c .before .in-use .ensures) (a .n .kind)
+    offered-whole (a .n .entries) (a .n .used) (c .before .in-use .result) (a .at) (search (needs, length-mapped)) (c .before .in-use .ensures) (a .n .kind) (c .offered-from .result) (c .offered-from .ensures)
 
 pub next-deliverable-spec : {M : Type 1} → statement M
 next-deliverable-spec = tie.close (tie.spec in-use-requires offered-from-requires returns)

@@ -1,4 +1,5 @@
-use mathlib.Core.Path.{_∙_}
+-- `next_listed` meets its contract. The first places of the array that can be in use are the used ones.
+-- Assumes nothing.
 use borrow.Author.Needs.{needs}
 use Rattle.lists.proofs.Places.{length-mapped}
 use Rattle.network_listing.specs.Listing.{listedNext}
@@ -16,7 +17,7 @@ returns : tie.Need-returns
 unfolding listedNext
 returns c =
     let a = c .before .before .before .args in
-    c .listed-from .ensures ∙ listed-whole (a .n .entries) (a .n .used) (c .before .in-use .result) (a .c .entry) (search (needs, length-mapped)) (c .before .in-use .ensures) (a .c .copy)
+    listed-whole (a .n .entries) (a .n .used) (c .before .in-use .result) (a .c .entry) (search (needs, length-mapped)) (c .before .in-use .ensures) (a .c .copy) (c .listed-from .result) (c .listed-from .ensures)
 
 pub next-listed-spec : {M : Type 1} → statement M
 next-listed-spec = tie.close (tie.spec in-use-requires listed-from-requires returns)

@@ -1,3 +1,5 @@
+-- `offered_from` meets its contract. Each turn passes an entry that is not offered, so that the answer stays the same.
+-- Assumes nothing.
 use Prim.Native.Nat.{ℕ, _-_}
 use mathlib.Core.Path.{_≡_, refl, sym, ap, _∙_}
 use lib.ListN.{getD, take}

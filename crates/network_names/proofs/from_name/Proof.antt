@@ -1,3 +1,5 @@
+-- `from_name` meets its contract. Each test that fails leaves the names after it.
+-- Assumes nothing.
 use mathlib.Core.Path.{sym, _∙_}
 use borrow.Author.Needs.{needs}
 use Rattle.lists.specs.Lists.{choose}

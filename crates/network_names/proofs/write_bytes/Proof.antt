@@ -1,3 +1,5 @@
+-- `write_bytes` meets its contract. The loop keeps that the buffer is the first i bytes of the name and then its own from i on.
+-- Assumes nothing.
 use Prim.Native.Nat.{_≤_, _-_}
 use native.Mathlib.Omega.{arith}
 use mathlib.Core.Path.{ap, _≡_, refl, _∙_}

@@ -1,3 +1,5 @@
+-- `write_name` meets its contract. Each arm knows the kind, and so the name.
+-- Assumes nothing.
 use borrow.Author.Needs.{needs}
 use Rattle.rules.specs.Network.{nameOf}
 use Rattle.network_names.proofs.write_name.Statement.{statement}
