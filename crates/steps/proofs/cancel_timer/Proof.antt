@@ -1,9 +1,9 @@
 use borrow.Author.Needs.{needs}
-use Rattle.actor.proofs.cancel_timer.Statement.{statement}
-use Rattle.actor.proofs.cancel_timer.Tie as tie
-use Rattle.actor.proofs.cancel_timer.Reads as reads
-use Rattle.actor.proofs.cancel_timer.Lts as lts
-use Rattle.actor.proofs.with_timers.Reads as with-timers-reads
+use Rattle.steps.proofs.cancel_timer.Statement.{statement}
+use Rattle.steps.proofs.cancel_timer.Tie as tie
+use Rattle.steps.proofs.cancel_timer.Reads as reads
+use Rattle.steps.proofs.cancel_timer.Lts as lts
+use Rattle.steps.proofs.with_timers.Reads as with-timers-reads
 use Rattle.timers.proofs.Timers.cancel.Reads as cancel-reads
 
 -- src/lib.rt:87:9

@@ -1,8 +1,8 @@
 use mathlib.Core.Path.{ap, _∙_}
-use Rattle.actor.proofs.Laws.{doneWith, set-touched, cancel-touched, send-touched, save-touched}
+use Rattle.steps.proofs.Laws.{doneWith, set-touched, cancel-touched, send-touched, save-touched}
 use borrow.Author.Needs.{needs}
-use Rattle.actor.proofs.run_command.Statement.{statement}
-use Rattle.actor.proofs.run_command.Tie as tie
+use Rattle.steps.proofs.run_command.Statement.{statement}
+use Rattle.steps.proofs.run_command.Tie as tie
 
 enum-known-c : tie.Need-enum-known-c
 enum-known-c c = search needs

@@ -8,16 +8,16 @@ use Rattle.link.specs.declared.LinkCommand.the-variants.{Set}
 use Rattle.rules.specs.Outcome.{base}
 use Rattle.parts.specs.Parts.{runPart}
 use Rattle.lists.proofs.Places.{length-mapped}
-use Rattle.actor.specs.Views.{partView, touchedOf}
-use Rattle.actor.proofs.Laws.{Turn, turn-start, turn-stop, turn-on, turn-end, all-of}
+use Rattle.steps.specs.Views.{partView, touchedOf}
+use Rattle.steps.proofs.Laws.{Turn, turn-start, turn-stop, turn-on, turn-end, all-of}
 use borrow.Author.Needs.{needs}
 use native.Mathlib.Omega.{arith}
-use Rattle.actor.proofs.run_commands.Statement.{statement}
-use Rattle.actor.proofs.run_commands.Tie as tie
-use Rattle.actor.proofs.run_commands.Reads as reads
-use Rattle.actor.proofs.run_commands.Lts as lts
+use Rattle.steps.proofs.run_commands.Statement.{statement}
+use Rattle.steps.proofs.run_commands.Tie as tie
+use Rattle.steps.proofs.run_commands.Reads as reads
+use Rattle.steps.proofs.run_commands.Lts as lts
 use Rattle.actor.proofs.is_done.Reads as is-done-reads
-use Rattle.actor.proofs.run_command.Reads as run-command-reads
+use Rattle.steps.proofs.run_command.Reads as run-command-reads
 
 abbrev zero : CommandSlot
 zero = record { command = Set 0 }
@@ -65,11 +65,10 @@ loop-again c =
     let s = c .before .before .before .before .before .before .before .before .before in
     let l = c .before .before .before .before .before .before .before .loop in
     let w : length (s .args .cs .list) ≡ 33 = l .inv .2 in
-    let k : s .args .cs .used ≤ length (s .args .cs .list) = omega (arith, w, s .pre .2) in
-    (
+    let k : s .args .cs .used ≤ length (s .args .cs .list) = omega (arith, w, s .pre .2) in (
       search needs,
       rw (add-one) (turn-on (s .args .i) (s .args .n) (s .args .a) _ _ (l .j) (l .net) (l .act) (l .inv .1) (c .before .before .before .before .before .before .loop-test .taken) k zero (c .before .before .before .before .run-command .result)
-      (c .before .before .before .before .run-command .ensures) (sym (c .before .before .before .is-done .ensures) ∙ not-false _ (c .before .before .if1 .left))),
+          (c .before .before .before .before .run-command .ensures) (sym (c .before .before .before .is-done .ensures) ∙ not-false _ (c .before .before .if1 .left))),
       w,
     )
 

@@ -38,9 +38,10 @@ use Rattle.link.specs.declared.LinkCommand.{LinkCommand}
 use Rattle.link.specs.declared.LinkCommand.the-variants.{Set, Cancel, Send, Save}
 use Rattle.link.specs.Views.{linkView, linkAs, commandView, commandsIn}
 use Rattle.parts.specs.Parts.{Part, netIn, actorIn, runPart}
 use Rattle.actor.specs.declared.Actor.{Actor as Struct}
-use Rattle.actor.specs.declared.Touched.{Touched}
-use Rattle.actor.specs.Views.{actorView, actorAs, partView, ActorLaid, touchedOf, isDone}
+use Rattle.steps.specs.declared.Touched.{Touched}
+use Rattle.actor.specs.Views.{actorView, actorAs, ActorLaid, isDone}
+use Rattle.steps.specs.Views.{partView, touchedOf}
 
 -- ---- what is stored, the link and the actor, seen again in their structs
 stored-back : (o : Option rules.Durable) → storedView (storedAs o) ≡ o

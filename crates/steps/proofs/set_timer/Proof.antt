@@ -1,9 +1,9 @@
 use borrow.Author.Needs.{needs}
-use Rattle.actor.proofs.set_timer.Statement.{statement}
-use Rattle.actor.proofs.set_timer.Tie as tie
-use Rattle.actor.proofs.set_timer.Reads as reads
-use Rattle.actor.proofs.set_timer.Lts as lts
-use Rattle.actor.proofs.with_timers.Reads as with-timers-reads
+use Rattle.steps.proofs.set_timer.Statement.{statement}
+use Rattle.steps.proofs.set_timer.Tie as tie
+use Rattle.steps.proofs.set_timer.Reads as reads
+use Rattle.steps.proofs.set_timer.Lts as lts
+use Rattle.steps.proofs.with_timers.Reads as with-timers-reads
 use Rattle.timers.proofs.Timers.set.Reads as set-reads
 
 -- src/lib.rt:80:9

@@ -1,0 +1,20 @@
+-- The part that a network and an actor are, and the answer struct of a part's outcome.
+-- Assumes nothing.
+use mathlib.Core.List.{List}
+use Rattle.types.specs.declared.Rule.{Rule}
+use Rattle.types.specs.Answers.{answerOf}
+use Rattle.rules.specs.Outcome.{Outcome, done, refused}
+use Rattle.network.specs.declared.Network.{Network}
+use Rattle.network.specs.Views.{netView, networkOf}
+use Rattle.parts.specs.Parts.{Part}
+use Rattle.actor.specs.declared.Actor.{Actor}
+use Rattle.actor.specs.Views.{actorView, actorAs}
+use Rattle.steps.specs.declared.Touched.{Touched}
+
+abbrev pub partView : List Rule → Network → Actor → Part
+partView rs n a = record { net = netView n; actor = actorView rs a }
+
+-- A refusal hands both back.
+abbrev pub touchedOf : Network → Actor → Outcome Part → Touched
+touchedOf n a (done p) = record { answer = answerOf 0; network = networkOf (p .net); actor = actorAs (p .actor) }
+touchedOf n a (refused k) = record { answer = answerOf k; network = n; actor = a }

@@ -1,0 +1,162 @@
+// What a step does to the network and to the one actor that it touches: the core of every step.
+use actor::Actor;
+use actor::is_done;
+use durable::Stored;
+use link::Commands;
+use link::LinkCommand;
+use network::Network;
+use network::Sent;
+use timers::Timers;
+use types::Answer;
+use types::Envelope;
+use types::Id;
+use types::Message;
+ghost use mathlib.Core.Path.{_≡_};
+ghost use mathlib.Core.Bool.{true};
+ghost use mathlib.Core.List.{List, _∷_, [], map};
+ghost use Prim.Native.Nat.{_≤_};
+ghost use Rattle.types.specs.declared.Rule.{Rule};
+ghost use Rattle.rules.specs.Outcome.{base};
+ghost use Rattle.types.specs.declared.Answer.the-variants.{Done};
+ghost use Rattle.rules.specs.Timers.{setTimer, cancelTimer};
+ghost use Rattle.rules.specs.Network.{send};
+ghost use Rattle.timers.specs.Views.{listed, timersOf};
+ghost use Rattle.network.specs.Views.{netView, NetReady, sentOf};
+ghost use Rattle.durable.specs.Views.{durableView};
+ghost use Rattle.link.specs.Views.{commandView, commandsIn};
+ghost use Rattle.parts.specs.Parts.{runPart};
+ghost use Rattle.actor.specs.Views.{ActorLaid};
+ghost use Rattle.steps.specs.Views.{partView, touchedOf};
+
+// Where the answer is not Done, network and actor are those that came.
+pub struct Touched {
+    pub answer: Answer,
+    pub network: Network,
+    pub actor: Actor,
+}
+
+// ---- commands of actor i run in order
+fn with_timers(a: Actor, t: Timers) -> Actor
+    ensures { λ r. ⌜ r ≡ record { crashed = a .crashed; timers = t; link = a .link; stored = a .stored } ⌝ }
+{
+    let l = a.link;
+    let s = a.stored;
+    Actor {
+        crashed: a.crashed,
+        timers: t,
+        link: l,
+        stored: s,
+    }
+}
+
+fn set_timer(a: Actor, t: u8) -> Actor
+    ensures { λ r. ⌜ r ≡ record { crashed = a .crashed; timers = timersOf (setTimer t (listed (a .timers .0))); link = a .link; stored = a .stored } ⌝ }
+{
+    let set = a.timers.set(t);
+    with_timers(a, set.timers)
+}
+
+fn cancel_timer(a: Actor, t: u8) -> Actor
+    ensures { λ r. ⌜ r ≡ record { crashed = a .crashed; timers = timersOf (cancelTimer t (listed (a .timers .0))); link = a .link; stored = a .stored } ⌝ }
+{
+    let cancelled = a.timers.cancel(t);
+    with_timers(a, cancelled.timers)
+}
+
+// The durable part of the link is stored.
+fn save(a: Actor) -> Actor
+    ensures { λ r. ⌜ r ≡ record { crashed = a .crashed; timers = a .timers; link = a .link; stored = record { some = true; durable = a .link .durable } } ⌝ }
+{
+    let l = a.link;
+    let d = l.durable;
+    let t = a.timers;
+    Actor {
+        crashed: a.crashed,
+        timers: t,
+        link: l,
+        stored: Stored {
+            some: true,
+            durable: d,
+        },
+    }
+}
+
+fn post(i: Id, n: Network, r: Id, m: Message) -> Sent
+    requires { ⌜ NetReady n ⌝ }
+    ensures { λ x. ⌜ x ≡ sentOf n (send (base .room) (record { src = i; dst = r; msg = m }) (netView n)) ⌝ }
+{
+    network::send(
+        n,
+        Envelope {
+            src: i,
+            dst: r,
+            msg: m,
+        },
+    )
+}
+
+fn done_with(n: Network, a: Actor) -> Touched
+    ensures { λ r. ⌜ r ≡ record { answer = Done; network = n; actor = a } ⌝ }
+{
+    Touched {
+        answer: Answer::Done,
+        network: n,
+        actor: a,
+    }
+}
+
+fn run_command(i: Id, n: Network, a: Actor, c: LinkCommand) -> Touched
+    requires { ⌜ NetReady n × ActorLaid a ⌝ }
+    ensures { λ x. ⌜ ((rs : List Rule) → x ≡ touchedOf n a (runPart (base .room) i (commandView (durableView (a .link .durable)) c ∷ []) (partView rs n a))) ⌝ }
+{
+    match c {
+        LinkCommand::Set(t) => done_with(n, set_timer(a, t)),
+        LinkCommand::Cancel(t) => done_with(n, cancel_timer(a, t)),
+        LinkCommand::Send(r, m) => {
+            let s = post(i, n, r, m);
+            let answer = s.answer;
+            let after = s.network;
+            Touched {
+                answer: answer,
+                network: after,
+                actor: a,
+            }
+        }
+        LinkCommand::Save => done_with(n, save(a)),
+    }
+}
+
+// All of them, or the first refusal with everything as it was.
+fn run_commands(i: Id, n: Network, a: Actor, cs: Commands) -> Touched
+    requires { ⌜ NetReady n × ActorLaid a × (cs .used ≤ 33) ⌝ }
+    ensures { λ x. ⌜ ((rs : List Rule) → x ≡ touchedOf n a (runPart (base .room) i (map (commandView (durableView (a .link .durable))) (commandsIn cs)) (partView rs n a))) ⌝ }
+{
+    let list = cs.list;
+    let used = cs.used;
+    let mut net = n;
+    let mut act = a;
+    let mut j = 0;
+    while j < used {
+        let slot = list[j];
+        let c = slot.command;
+        let t = run_command(i, net, act, c);
+        let answer = t.answer;
+        if !is_done(answer) {
+            return Touched {
+                answer: answer,
+                network: n,
+                actor: a,
+            };
+        }
+        let after = t.network;
+        let actor = t.actor;
+        net = after;
+        act = actor;
+        j += 1;
+    }
+    Touched {
+        answer: Answer::Done,
+        network: net,
+        actor: act,
+    }
+}
