@@ -5,7 +5,7 @@ use native.Mathlib.Omega.{arith}
 use mathlib.Core.Path.{_≡_, refl, sym, ap, _∙_, subst}
 use Rattle.types.specs.Answers.{answerOf}
 use Rattle.types.specs.declared.Answer.the-variants.{Done}
-use mathlib.Core.Bool.{Bool, true, false, true≢false, false≢true}
+use mathlib.Core.Bool.{Bool, true, false, not, true≢false, false≢true}
 use mathlib.Core.Option.{Option, none, some}
 use mathlib.Core.List.{List, [], _∷_, map, map-map}
 use lib.ListN.{length, getD, take}
@@ -19,7 +19,9 @@ use Rattle.rules.specs.Outcome.{Outcome, done, refused, bind, guard, Room, base
 use Rattle.rules.specs.Timers.{setTimer, cancelTimer}
 use Rattle.rules.specs.Network.{Net, sending, fits, send}
 use Rattle.rules.specs.Link as rules
-use Rattle.rules.specs.System.{Actor, withTimers, withStorage}
+use Rattle.rules.specs.System.{Actor, withTimers, withStorage, withLink}
+use Rattle.rules.proofs.Answers.{Among}
+use Rattle.lists.proofs.Members.{not-true}
 use Rattle.rules.proofs.Timers.{TimerSet, set-timers, cancel-timers}
 use Rattle.timers.specs.declared.Timers.{Timers}
 use Rattle.timers.specs.Views.{listed, timersOf}
@@ -34,14 +36,16 @@ use Rattle.durable.proofs.Containers.{durable-back}
 use Rattle.link.specs.declared.Link.{Link}
 use Rattle.link.specs.declared.CommandSlot.{CommandSlot}
 use Rattle.link.specs.declared.Commands.{Commands}
+use Rattle.link.specs.declared.Did.{Did}
 use Rattle.link.specs.declared.LinkCommand.{LinkCommand}
 use Rattle.link.specs.declared.LinkCommand.the-variants.{Set, Cancel, Send, Save}
 use Rattle.link.specs.Views.{linkView, linkAs, commandView, commandsIn}
-use Rattle.parts.specs.Parts.{Part, netIn, actorIn, runPart}
+use Rattle.parts.specs.Parts.{Part, netIn, actorIn, runPart, finishPart}
+use Rattle.parts.proofs.Answers.{on-run}
 use Rattle.actor.specs.declared.Actor.{Actor as Struct}
 use Rattle.steps.specs.declared.Touched.{Touched}
 use Rattle.actor.specs.Views.{actorView, actorAs, ActorLaid, isDone}
-use Rattle.steps.specs.Views.{partView, touchedOf}
+use Rattle.steps.specs.Views.{partView, didView, touchedOf, backTo}
 
 -- ---- what is stored, the link and the actor, seen again in their structs
 stored-back : (o : Option rules.Durable) → storedView (storedAs o) ≡ o
@@ -270,3 +274,29 @@ turn-end i n a list used net act g rs =
 -- The commands of a struct, from the first on.
 pub all-of : (d : rules.Durable) (cs : Commands) → map (commandView d) (commandsIn cs) ≡ restOf d (cs .list) (cs .used) 0
 all-of d cs = map-map (commandView d) (λ (s : CommandSlot). s .command) (take (cs .used) (cs .list))
+
+-- ---- what was refused further on
+abbrev refusal : ℕ → Bool
+refusal k = not (isDone (answerOf k))
+
+pub back-touched : (n n′ : Network) (a b : Struct) (m : Outcome Part) → Among refusal m → backTo n a (touchedOf n′ b m) ≡ touchedOf n a m
+unfolding Among answerOf choose
+back-touched n n′ a b (done p) r = refl
+back-touched n n′ a b (refused k) r = rw (not-true (isDone (answerOf k)) r)
+
+-- ---- another link in the actor
+abbrev linkIn : Struct → Link → Struct
+linkIn a l = record { crashed = a .crashed; timers = a .timers; link = l; stored = a .stored }
+
+pub linked : (a : Struct) (l : Link) (b : Struct) → ActorLaid a → l ≡ linkAs (linkView l) → b ≡ linkIn a l → ActorLaid b
+linked a l b h e f =
+    subst (λ (x : Struct). ActorLaid x) (sym f) (λ i. record { crashed = a .crashed; timers = h i .timers; link = e i; stored = h i .stored })
+
+-- The commands of a handler run on the actor with its link: what the rules finish with.
+pub finished : (rs : List Rule) (i : Id) (n : Network) (a : Struct) (d : Did) (b : Struct) → b ≡ linkIn a (d .link)
+    → backTo n a (touchedOf n b (runPart (base .room) i (map (commandView (durableView (b .link .durable))) (commandsIn (d .commands))) (partView rs n b)))
+    ≡ touchedOf n a (finishPart base i (partView rs n a) (didView d))
+unfolding finishPart actorIn withLink answerOf
+finished rs i n a d b f =
+    ap (λ (x : Struct). backTo n a (touchedOf n x (runPart (base .room) i (map (commandView (durableView (x .link .durable))) (commandsIn (d .commands))) (partView rs n x)))) f
+    ∙ back-touched n n a (linkIn a (d .link)) _ (on-run refusal refl refl refl (base .room) i _ _)

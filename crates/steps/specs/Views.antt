@@ -1,6 +1,7 @@
 -- The part that a network and an actor are, and the answer struct of a part's outcome.
 -- Assumes nothing.
-use mathlib.Core.List.{List}
+use mathlib.Core.List.{List, []}
+use Rattle.lists.specs.Lists.{choose}
 use Rattle.types.specs.declared.Rule.{Rule}
 use Rattle.types.specs.Answers.{answerOf}
 use Rattle.rules.specs.Outcome.{Outcome, done, refused}
@@ -8,7 +9,10 @@ use Rattle.network.specs.declared.Network.{Network}
 use Rattle.network.specs.Views.{netView, networkOf}
 use Rattle.parts.specs.Parts.{Part}
 use Rattle.actor.specs.declared.Actor.{Actor}
-use Rattle.actor.specs.Views.{actorView, actorAs}
+use Rattle.actor.specs.Views.{actorView, actorAs, isDone}
+use Rattle.rules.specs.Link as rules
+use Rattle.link.specs.declared.Did.{Did}
+use Rattle.link.specs.Views.{linkView, toldBy}
 use Rattle.steps.specs.declared.Touched.{Touched}
 
 abbrev pub partView : List Rule → Network → Actor → Part
@@ -18,3 +22,11 @@ partView rs n a = record { net = netView n; actor = actorView rs a }
 abbrev pub touchedOf : Network → Actor → Outcome Part → Touched
 touchedOf n a (done p) = record { answer = answerOf 0; network = networkOf (p .net); actor = actorAs (p .actor) }
 touchedOf n a (refused k) = record { answer = answerOf k; network = n; actor = a }
+
+-- What a handler told, as the rules have it; the events are for theorems only.
+abbrev pub didView : Did → rules.Did
+didView d = record { link = linkView (d .link); touched = d .touched; commands = toldBy d; events = [] }
+
+-- A refusal hands back what came first.
+abbrev pub backTo : Network → Actor → Touched → Touched
+backTo n a x = choose (isDone (x .answer)) x (record { answer = x .answer; network = n; actor = a })

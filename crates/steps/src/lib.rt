@@ -3,6 +3,8 @@ use actor::Actor;
 use actor::is_done;
 use durable::Stored;
 use link::Commands;
+use link::Did;
+use link::Link;
 use link::LinkCommand;
 use network::Network;
 use network::Sent;
@@ -23,10 +25,10 @@ ghost use Rattle.rules.specs.Network.{send};
 ghost use Rattle.timers.specs.Views.{listed, timersOf};
 ghost use Rattle.network.specs.Views.{netView, NetReady, sentOf};
 ghost use Rattle.durable.specs.Views.{durableView};
-ghost use Rattle.link.specs.Views.{commandView, commandsIn};
-ghost use Rattle.parts.specs.Parts.{runPart};
+ghost use Rattle.link.specs.Views.{linkView, linkAs, commandView, commandsIn};
+ghost use Rattle.parts.specs.Parts.{runPart, finishPart};
 ghost use Rattle.actor.specs.Views.{ActorLaid};
-ghost use Rattle.steps.specs.Views.{partView, touchedOf};
+ghost use Rattle.steps.specs.Views.{partView, didView, touchedOf, backTo};
 
 // Where the answer is not Done, network and actor are those that came.
 pub struct Touched {
@@ -159,4 +161,52 @@ fn run_commands(i: Id, n: Network, a: Actor, cs: Commands) -> Touched
         network: net,
         actor: act,
     }
+}
+
+// ---- after the handler
+fn with_link(a: Actor, l: Link) -> Actor
+    ensures { λ r. ⌜ r ≡ record { crashed = a .crashed; timers = a .timers; link = l; stored = a .stored } ⌝ }
+{
+    let t = a.timers;
+    let s = a.stored;
+    Actor {
+        crashed: a.crashed,
+        timers: t,
+        link: l,
+        stored: s,
+    }
+}
+
+// A refusal with everything as it was.
+fn refused(answer: Answer, n: Network, a: Actor) -> Touched
+    ensures { λ r. ⌜ r ≡ record { answer = answer; network = n; actor = a } ⌝ }
+{
+    Touched {
+        answer: answer,
+        network: n,
+        actor: a,
+    }
+}
+
+// A refusal further on hands back what came first.
+fn back(x: Touched, n: Network, a: Actor) -> Touched
+    ensures { λ r. ⌜ r ≡ backTo n a x ⌝ }
+{
+    let answer = x.answer;
+    if is_done(answer) {
+        return x;
+    }
+    refused(answer, n, a)
+}
+
+// The link that a handler answered is put in place, then its commands run.
+fn finish(i: Id, n: Network, a: Actor, d: Did) -> Touched
+    requires { ⌜ NetReady n × ActorLaid a × (d .commands .used ≤ 33) × (d .link ≡ linkAs (linkView (d .link))) ⌝ }
+    ensures { λ x. ⌜ ((rs : List Rule) → x ≡ touchedOf n a (finishPart base i (partView rs n a) (didView d))) ⌝ }
+{
+    let l = d.link;
+    let cs = d.commands;
+    let b = with_link(a, l);
+    let x = run_commands(i, n, b, cs);
+    back(x, n, a)
 }
