@@ -9,7 +9,7 @@ ghost use mathlib.Core.Bool.{true};
 ghost use mathlib.Core.List.{_++_, _∷_, []};
 ghost use Prim.Native.Nat.{_≤_, _<_};
 ghost use lib.ListN.{take, drop};
-ghost use lib.Dec.{leb};
+ghost use lib.Dec.{leb, eqb};
 ghost use Rattle.lists.specs.Lists.{all, chain, endsIn, lead, shrink};
 ghost use Rattle.rules.specs.Outcome.{base};
 ghost use Rattle.rules.specs.Link.{fresh, durableOf, lastOf, lastTaken, noteTaken, taking, without, acked, posting, saving};
@@ -52,6 +52,12 @@ fn zero_pending() -> Pending
     }
 }
 
+fn has_number(q: Pending, n: Number) -> bool
+    ensures { λ x. ⌜ x ≡ eqb (n .0) (q .number .0) ⌝ }
+{
+    n.0 == q.number.0
+}
+
 // How many leading records have another number: the place of the one that has it, or the count.
 fn pending_place(records: [Pending; 32], used: usize, n: Number) -> usize
     requires { ⌜ used ≤ 32 ⌝ }
@@ -60,7 +66,7 @@ fn pending_place(records: [Pending; 32], used: usize, n: Number) -> usize
     let mut i = 0;
     while i < used {
         let here = records[i];
-        if n.0 == here.number.0 {
+        if has_number(here, n) {
             return i;
         }
         i += 1;

@@ -7,13 +7,14 @@ use mathlib.Core.Path.{_≡_, refl, sym, ap, _∙_}
 use mathlib.Core.Bool.{Bool, true, false}
 use mathlib.Core.Option.{Option, none, some}
 use mathlib.Core.List.{List, [], _∷_, _++_, map, map-append, append-assoc}
-use lib.ListN.{length, take, drop, getD, length-map, length-take, drop-of-length-le}
-use lib.Seq.{take-suc, length-take-le, drop-cons, getD-take}
+use lib.ListN.{length, take, getD, length-map, length-take}
+use lib.Seq.{take-suc, length-take-le}
 use lib.Dec.{lit<, lit≤, leb}
 use borrow.Author.Tests.{leb-true, eq-eqb, ne-eqb}
 use Rattle.lists.specs.Lists.{choose, all}
 use Rattle.lists.proofs.Members.{every-cons}
 use Rattle.lists.proofs.Places.{write-length}
+use Rattle.types.specs.declared.Answer.{Answer}
 use Rattle.types.specs.declared.Id.{Id}
 use Rattle.types.specs.declared.Number.{Number}
 use Rattle.types.specs.declared.Payload.{Payload}
@@ -21,13 +22,11 @@ use Rattle.types.specs.declared.Pending.{Pending}
 use Rattle.types.specs.declared.Storage.{Storage}
 use Rattle.types.specs.declared.Rule.{Rule}
 use Rattle.types.specs.declared.Message.the-variants.{Deliver}
-use Rattle.types.specs.declared.InnerCommand.{InnerCommand}
 use Rattle.types.specs.Answers.{answerOf}
 use Rattle.rules.specs.Outcome.{Outcome, bind, Limits, base}
 use Rattle.rules.specs.Inner.{Reply, reply, atStart, ignored, nobody}
 use Rattle.rules.specs.WellFormed.{ruleOk}
 use Rattle.rules.specs.Link as rules
-use Rattle.inner.specs.declared.InnerSlot.{InnerSlot}
 use Rattle.inner.specs.declared.Reaction.{Reaction}
 use Rattle.inner.specs.declared.Table.{Table}
 use Rattle.inner.specs.Views.{rulesOf, reactionOf, replyOf, tableOk}
@@ -38,13 +37,22 @@ use Rattle.durable.specs.declared.Stored.{Stored}
 use Rattle.durable.specs.Views.{pendingList, takenList, durableView, durableAs, storedView, pendingsLaid, takenLaid, durableLaid, storedLaid}
 use Rattle.durable.proofs.Containers.{durable-parts, durable-back}
 use Rattle.link.specs.declared.Link.{Link}
-use Rattle.link.specs.declared.LinkCommand.{LinkCommand}
-use Rattle.link.specs.declared.LinkCommand.the-variants.{Set, Send, Save}
-use Rattle.link.specs.declared.Commands.{Commands}
-use Rattle.link.specs.declared.Output.{Output}
+use Rattle.output.specs.declared.LinkCommand.{LinkCommand}
+use Rattle.output.specs.declared.LinkCommand.the-variants.{Set, Send, Save}
+use Rattle.output.specs.declared.Commands.{Commands}
+use Rattle.output.specs.declared.Output.{Output}
 use Rattle.link.specs.declared.Did.{Did}
-use Rattle.link.specs.Views.{linkAs, commandsIn, commandsOf, commandAs, outputAs, didAs, Whole}
-use Rattle.link.proofs.Outputs.{commands-back, commands-same, then-one, Went, halted, whole-is, whole-pend, whole-took, outside}
+use Rattle.output.specs.Views.{commandsIn, commandsOf, commandAs, outputAs, Whole}
+use Rattle.link.specs.Views.{linkAs, didAs}
+use Rattle.output.proofs.Outputs.{commands-back, commands-same, then-one, Went, halted, whole-is, whole-pend, whole-took}
+
+-- ---- the structs, part by part
+pub did-is : (a b : Answer) (l m : Link) (t : Bool) (cs es : Commands) → a ≡ b → l ≡ m → cs ≡ es
+    → _≡_ {A = Did} (record { answer = a; link = l; touched = t; commands = cs }) (record { answer = b; link = m; touched = t; commands = es })
+did-is a b l m t cs es o p q = λ i. record { answer = o i; link = p i; touched = t; commands = q i }
+
+pub link-is : (d e : Durable) (s t : ℕ) → d ≡ e → s ≡ t → _≡_ {A = Link} (record { durable = d; state = s }) (record { durable = e; state = t })
+link-is d e s t p q = λ i. record { durable = p i; state = q i }
 
 -- ---- the first commands
 pub none-ready : (cs : Commands) → cs ≡ commandsOf [] → (cs ≡ commandsOf (commandsIn cs)) × (cs .used < 33)
@@ -77,19 +85,6 @@ after first cs c os e f = e ∙ ap (λ (x : List LinkCommand). commandsOf (x ++ 
 pub taking-whole : (d t : Durable) (s : Id) (n : Number) → Whole d → s .0 < 8 → t ≡ durableAs (rules.taking s n (durableView d)) → Whole t
 unfolding rules.taking rules.noteTaken
 taking-whole d t s n w h e = whole-is t (rules.taking s n (durableView d)) e (whole-pend d w) (write-length rules.untaken (s .0) n _ 8 h (whole-took d w))
-
--- ---- the commands that a reaction has still to tell
-abbrev pub tellings : List InnerSlot → List InnerCommand
-tellings l = map (λ (s : InnerSlot). s .command) l
-
-pub next-told : (told : List InnerSlot) (used i : ℕ) → used ≤ length told → i < used → tellings (drop i (take used told)) ≡ getD told i outside .command ∷ tellings (drop (i + 1) (take used told))
-next-told told used i h k =
-    let n = length-take-le used told h in
-    rw add-one (ap tellings (drop-cons (take used told) i outside (omega arith))
-    ∙ ap (λ (s : InnerSlot). s .command ∷ tellings (drop (suc i) (take used told))) (getD-take used told i outside k))
-
-pub told-end : (told : List InnerSlot) (used i : ℕ) → used ≤ length told → used ≤ i → tellings (drop i (take used told)) ≡ []
-told-end told used i h k = let n = length-take-le used told h in ap tellings (drop-of-length-le (take used told) {i = i} (omega arith))
 
 -- ---- pending messages sent again
 abbrev pub again : Pending → rules.Command

@@ -1,2 +1,3 @@
-pub mod Outputs
 pub mod Handlers
+pub mod Saves
+pub mod Kept

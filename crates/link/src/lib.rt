@@ -2,27 +2,28 @@
 use durable::Durable;
 use durable::Stored;
 use durable::drop_acked;
-use durable::fresh_durable;
 use durable::last_taken;
-use durable::post;
-use durable::save_value;
 use durable::stored_or_fresh;
 use durable::take_number;
 use inner::Reaction;
 use inner::Table;
 use inner::react;
 use inner::react_at_start;
+use output::Commands;
+use output::LinkCommand;
+use output::no_commands;
+use output::output_of;
+use output::push;
 use types::Answer;
 use types::Id;
-use types::InnerCommand;
 use types::Message;
 use types::Number;
 use types::Payload;
 ghost use mathlib.Core.Path.{_≡_};
 ghost use mathlib.Core.Bool.{true, false};
-ghost use mathlib.Core.List.{List, _++_, _∷_, []};
+ghost use mathlib.Core.List.{List, []};
 ghost use Prim.Native.Nat.{_≤_, _<_};
-ghost use Rattle.lists.specs.Lists.{choose, any};
+ghost use Rattle.lists.specs.Lists.{choose};
 ghost use Rattle.types.specs.declared.Id.{Id};
 ghost use Rattle.types.specs.declared.Payload.{Payload};
 ghost use Rattle.types.specs.declared.Message.the-variants.{Deliver};
@@ -32,39 +33,14 @@ ghost use Rattle.rules.specs.Outcome.{bind, base};
 ghost use Rattle.rules.specs.Inner.{ignored};
 ghost use Rattle.rules.specs.Link as rules;
 ghost use Rattle.inner.specs.Views.{rulesOf, replyOf, tableOk};
-ghost use Rattle.durable.specs.Views.{durableView, durableAs, storedView, durableLaid, storedLaid};
-ghost use Rattle.link.specs.Views.{linkView, commandsIn, commandsOf, outputAs, didAs, startLink, Whole};
+ghost use Rattle.durable.specs.Views.{durableView, storedView, durableLaid, storedLaid};
+ghost use Rattle.output.specs.Views.{commandsOf, Whole};
+ghost use Rattle.link.specs.Views.{linkView, didAs, startLink};
 
 // The volatile part is the inner actor's state.
 pub struct Link {
     pub durable: Durable,
     pub state: u8,
-}
-
-// An enum cannot hold an array, so a Save has no content: it saves the durable part of the answered link.
-pub enum LinkCommand {
-    Set(u8),
-    Cancel(u8),
-    Send(Id, Message),
-    Save,
-}
-
-pub struct CommandSlot {
-    pub command: LinkCommand,
-}
-
-// In the order in which they run. Places from the used count on are zero: set timer 0.
-pub struct Commands {
-    pub list: [CommandSlot; 33],
-    pub used: usize,
-}
-
-// Inner output so far. Where it is not going on, the answer says why.
-pub struct Output {
-    pub going: bool,
-    pub answer: Answer,
-    pub durable: Durable,
-    pub commands: Commands,
 }
 
 // Where the answer is not Done, the link is the one that came, untouched, and there is no command.
@@ -73,168 +49,6 @@ pub struct Did {
     pub link: Link,
     pub touched: bool,
     pub commands: Commands,
-}
-
-// ---- commands
-fn no_commands() -> Commands
-    ensures { λ r. ⌜ r ≡ commandsOf [] ⌝ }
-{
-    Commands {
-        list: [CommandSlot {
-            command: LinkCommand::Set(0),
-        }; 33],
-        used: 0,
-    }
-}
-
-// One more command.
-fn push(cs: Commands, c: LinkCommand) -> Commands
-    requires { ⌜ (cs ≡ commandsOf (commandsIn cs)) × (cs .used < 33) ⌝ }
-    ensures { λ r. ⌜ r ≡ commandsOf (commandsIn cs ++ c ∷ []) ⌝ }
-{
-    let used = cs.used;
-    let mut list = cs.list;
-    list[used] = CommandSlot { command: c };
-    Commands {
-        list: list,
-        used: used + 1,
-    }
-}
-
-// ---- inner output, in order
-fn going_on(d: Durable, cs: Commands) -> Output
-    ensures { λ r. ⌜ r ≡ record { going = true; answer = Done; durable = d; commands = cs } ⌝ }
-{
-    Output {
-        going: true,
-        answer: Answer::Done,
-        durable: d,
-        commands: cs,
-    }
-}
-
-fn stopped(answer: Answer) -> Output
-    ensures { λ r. ⌜ r ≡ record { going = false; answer = answer; durable = durableAs rules.fresh; commands = commandsOf [] } ⌝ }
-{
-    let d = fresh_durable();
-    let cs = no_commands();
-    Output {
-        going: false,
-        answer: answer,
-        durable: d,
-        commands: cs,
-    }
-}
-
-// A Send takes the next number, sends, and becomes pending: 6 before 7.
-fn send_one(d: Durable, cs: Commands, r: Id, p: Payload) -> Output
-    requires { ⌜ Whole d × (cs ≡ commandsOf (commandsIn cs)) × (cs .used < 33) ⌝ }
-    ensures { λ x. ⌜ ((i : Id) → x ≡ outputAs (commandsIn cs) (rules.process (base .limits) i (durableView d) (inner.Send r p ∷ []))) ⌝ }
-{
-    let next = d.next;
-    if 18446744073709551615 <= next.0 {
-        return stopped(Answer::NumbersUsedUp);
-    }
-    if 32 <= d.pending.used {
-        return stopped(Answer::PendingFull);
-    }
-    let posted = post(d, r, p);
-    let more = push(cs, LinkCommand::Send(r, Message::Deliver(next, p)));
-    going_on(posted, more)
-}
-
-// One command of the inner actor.
-fn process_one(d: Durable, cs: Commands, c: InnerCommand) -> Output
-    requires { ⌜ Whole d × (cs ≡ commandsOf (commandsIn cs)) × (cs .used < 33) ⌝ }
-    ensures { λ x. ⌜ ((i : Id) → x ≡ outputAs (commandsIn cs) (rules.process (base .limits) i (durableView d) (c ∷ []))) ⌝ }
-{
-    match c {
-        InnerCommand::SetTimer(t) => {
-            let more = push(cs, LinkCommand::Set(t));
-            going_on(d, more)
-        }
-        InnerCommand::CancelTimer(t) => {
-            let more = push(cs, LinkCommand::Cancel(t));
-            going_on(d, more)
-        }
-        InnerCommand::Send(r, p) => send_one(d, cs, r, p),
-        InnerCommand::Save(v) => {
-            let saved = save_value(d, v);
-            going_on(saved, cs)
-        }
-    }
-}
-
-// All commands of a reaction.
-fn process(d: Durable, cs: Commands, r: Reaction) -> Output
-    requires { ⌜ Whole d × (cs ≡ commandsOf (commandsIn cs)) × (cs .used ≤ 1) × (r .used ≤ 4) ⌝ }
-    ensures { λ x. ⌜ ((i : Id) → x ≡ outputAs (commandsIn cs) (rules.process (base .limits) i (durableView d) (replyOf r .out))) ⌝ }
-{
-    let used = r.used;
-    let told = r.commands;
-    let mut e = d;
-    let mut out = cs;
-    let mut i = 0;
-    while i < used {
-        let s = told[i];
-        let c = s.command;
-        let o = process_one(e, out, c);
-        if !o.going {
-            return o;
-        }
-        e = o.durable;
-        out = o.commands;
-        i += 1;
-    }
-    going_on(e, out)
-}
-
-fn is_durable(c: InnerCommand) -> bool
-    ensures { λ x. ⌜ x ≡ rules.durably c ⌝ }
-{
-    match c {
-        InnerCommand::SetTimer(_) => false,
-        InnerCommand::CancelTimer(_) => false,
-        InnerCommand::Send(_, _) => true,
-        InnerCommand::Save(_) => true,
-    }
-}
-
-// Whether there is any Send or Save.
-fn saves(r: Reaction) -> bool
-    requires { ⌜ r .used ≤ 4 ⌝ }
-    ensures { λ x. ⌜ x ≡ any rules.durably (replyOf r .out) ⌝ }
-{
-    let used = r.used;
-    let told = r.commands;
-    let mut i = 0;
-    while i < used {
-        let s = told[i];
-        let c = s.command;
-        if is_durable(c) {
-            return true;
-        }
-        i += 1;
-    }
-    false
-}
-
-// The output of a reaction, saved once after all of it if there was any Send or Save.
-fn output_of(d: Durable, cs: Commands, r: Reaction) -> Output
-    requires { ⌜ Whole d × (cs ≡ commandsOf (commandsIn cs)) × (cs .used ≤ 1) × (r .used ≤ 4) ⌝ }
-    ensures { λ x. ⌜ ((i : Id) → x ≡ outputAs (commandsIn cs) (rules.output (base .limits) i (durableView d) (replyOf r .out))) ⌝ }
-{
-    let o = process(d, cs, r);
-    if !o.going {
-        return o;
-    }
-    if saves(r) {
-        let e = o.durable;
-        let out = o.commands;
-        let more = push(out, LinkCommand::Save);
-        return going_on(e, more);
-    }
-    o
 }
 
 // ---- handlers
@@ -318,11 +132,11 @@ fn ack_only(l: Link, s: Id, n: Number) -> Did
 }
 
 // The inner state after a message was taken.
-fn next_state(r: Reaction, state: u8) -> u8
-    ensures { λ x. ⌜ x ≡ choose (r .touched) (r .state) state ⌝ }
+fn next_state(touched: bool, next: u8, state: u8) -> u8
+    ensures { λ x. ⌜ x ≡ choose touched next state ⌝ }
 {
-    if r.touched {
-        return r.state;
+    if touched {
+        return next;
     }
     state
 }
@@ -344,7 +158,7 @@ fn take_message(l: Link, s: Id, n: Number, r: Reaction) -> Did
     let e = o.durable;
     let out = o.commands;
     let more = push(out, LinkCommand::Save);
-    let state = next_state(r, l.state);
+    let state = next_state(r.touched, r.state, l.state);
     Did {
         answer: Answer::Done,
         link: Link {

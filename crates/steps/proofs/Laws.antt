@@ -34,12 +34,13 @@ use Rattle.network.proofs.Ready.{viewed, send-ready}
 use Rattle.durable.specs.Views.{durableView, storedView, storedAs}
 use Rattle.durable.proofs.Containers.{durable-back}
 use Rattle.link.specs.declared.Link.{Link}
-use Rattle.link.specs.declared.CommandSlot.{CommandSlot}
-use Rattle.link.specs.declared.Commands.{Commands}
+use Rattle.output.specs.declared.CommandSlot.{CommandSlot}
+use Rattle.output.specs.declared.Commands.{Commands}
 use Rattle.link.specs.declared.Did.{Did}
-use Rattle.link.specs.declared.LinkCommand.{LinkCommand}
-use Rattle.link.specs.declared.LinkCommand.the-variants.{Set, Cancel, Send, Save}
-use Rattle.link.specs.Views.{linkView, linkAs, commandView, commandsIn}
+use Rattle.output.specs.declared.LinkCommand.{LinkCommand}
+use Rattle.output.specs.declared.LinkCommand.the-variants.{Set, Cancel, Send, Save}
+use Rattle.link.specs.Views.{linkView, linkAs}
+use Rattle.output.specs.Views.{commandView, commandsIn}
 use Rattle.parts.specs.Parts.{Part, netIn, actorIn, runPart, finishPart}
 use Rattle.parts.proofs.Answers.{on-run}
 use Rattle.actor.specs.declared.Actor.{Actor as Struct}

@@ -1,11 +1,10 @@
 use borrow.Author.Count.{below-none, below-more}
 use native.Mathlib.Omega.{arith}
 use Prim.Native.Nat.{ℕ, _≤_, _<_, _-_}
-use mathlib.Core.Path.{_≡_, ap}
+use mathlib.Core.Path.{_≡_, sym, ap, _∙_}
 use mathlib.Core.Bool.{true, not}
 use lib.ListN.{getD}
 use Rattle.lists.proofs.Places.{lead-first}
-use borrow.Author.Tests.{eq-eqb, ne-eqb}
 use Rattle.durable.specs.Views.{otherNumber, zeroPending}
 use borrow.Author.Needs.{needs}
 use Rattle.durable.proofs.pending_place.Statement.{statement}
@@ -26,11 +25,14 @@ mul-here c = search needs
 array-copy-out-here : tie.Need-array-copy-out-here Inv-loop μ-loop
 array-copy-out-here c = search needs
 
+has-number-requires : tie.Need-has-number-requires Inv-loop μ-loop
+has-number-requires c κs = search needs
+
 returns : tie.Need-returns Inv-loop μ-loop
 returns c =
-    let a = c .before .before .before .before .before .before .args in
-    let l = c .before .before .before .before .before .loop in
-    lead-first (otherNumber (a .n)) (a .t1) (a .used) (l .i) zeroPending (search needs) (search needs) (l .inv .1) (λ h. ap not (eq-eqb _ _ (c .if1 .taken)))
+    let a = c .before .before .before .before .before .args in
+    let l = c .before .before .before .before .loop in
+    lead-first (otherNumber (a .n)) (a .t1) (a .used) (l .i) zeroPending (search needs) (search needs) (l .inv .1) (λ h. ap not (sym (c .before .has-number .ensures) ∙ c .if1 .taken))
 
 add-i : tie.Need-add-i Inv-loop μ-loop
 add-i c = search needs
@@ -40,8 +42,8 @@ loop-less c = search needs
 
 loop-again : tie.Need-loop-again Inv-loop μ-loop
 loop-again c =
-    let l = c .before .before .before .before .before .loop in
-    (search needs, below-more _ (l .i) (l .inv .1) (ap not (ne-eqb _ _ (c .if1 .left))))
+    let l = c .before .before .before .before .loop in
+    (search needs, below-more _ (l .i) (l .inv .1) (ap not (sym (c .before .has-number .ensures) ∙ c .if1 .left)))
 
 returns-2 : tie.Need-returns-2 Inv-loop μ-loop
 returns-2 c =
@@ -58,6 +60,7 @@ pending-place-spec =
     loop-holds
     mul-here
     array-copy-out-here
+    has-number-requires
     returns
     add-i
     loop-less

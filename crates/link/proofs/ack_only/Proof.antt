@@ -2,8 +2,9 @@ use mathlib.Core.Path.{refl}
 use mathlib.Core.List.{[]}
 use Rattle.types.specs.Answers.{answerOf}
 use Rattle.rules.specs.Link.{acking}
-use Rattle.link.specs.Views.{commandAs}
-use Rattle.link.proofs.Outputs.{then-one, did-is, link-is}
+use Rattle.output.specs.Views.{commandAs}
+use Rattle.output.proofs.Outputs.{then-one}
+use Rattle.link.proofs.Handlers.{did-is, link-is}
 use Rattle.link.proofs.Handlers.{none-ready}
 use borrow.Author.Needs.{needs}
 use Rattle.link.proofs.ack_only.Statement.{statement}

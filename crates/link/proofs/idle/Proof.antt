@@ -1,7 +1,7 @@
 use mathlib.Core.Path.{refl}
 use Rattle.types.specs.Answers.{answerOf}
 use Rattle.rules.specs.Link.{idling}
-use Rattle.link.proofs.Outputs.{did-is, link-is}
+use Rattle.link.proofs.Handlers.{did-is, link-is}
 use borrow.Author.Needs.{needs}
 use Rattle.link.proofs.idle.Statement.{statement}
 use Rattle.link.proofs.idle.Tie as tie

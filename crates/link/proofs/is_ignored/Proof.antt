@@ -3,7 +3,7 @@ use native.Mathlib.Omega.{arith}
 use mathlib.Core.Path.{_≡_}
 use lib.ListN.{length}
 use Rattle.lists.proofs.Places.{length-mapped}
-use Rattle.link.proofs.Outputs.{ignored-is}
+use Rattle.output.proofs.Outputs.{ignored-is}
 use Rattle.link.proofs.is_ignored.Statement.{statement}
 use Rattle.link.proofs.is_ignored.Tie as tie
 

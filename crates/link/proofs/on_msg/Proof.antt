@@ -1,8 +1,8 @@
-use Rattle.link.specs.Views.{Whole}
+use Rattle.output.specs.Views.{Whole}
 use mathlib.Core.Path.{_≡_}
 use lib.ListN.{length}
 use Rattle.lists.proofs.Places.{length-mapped}
-use Rattle.link.proofs.Outputs.{whole-of}
+use Rattle.output.proofs.Outputs.{whole-of}
 use Rattle.rules.specs.Link.{onMsg}
 use borrow.Author.Needs.{needs}
 use Rattle.link.proofs.on_msg.Statement.{statement}

@@ -1,5 +1,5 @@
 use mathlib.Core.Path.{refl}
-use Rattle.link.proofs.Outputs.{did-is}
+use Rattle.link.proofs.Handlers.{did-is}
 use borrow.Author.Needs.{needs}
 use Rattle.link.proofs.refuse.Statement.{statement}
 use Rattle.link.proofs.refuse.Tie as tie

@@ -7,9 +7,10 @@ use lib.ListN.{length}
 use Rattle.types.specs.Answers.{answerOf}
 use Rattle.rules.specs.Link.{resent, resending}
 use Rattle.durable.specs.Views.{zeroPending}
-use Rattle.link.specs.declared.LinkCommand.the-variants.{Set}
-use Rattle.link.specs.Views.{commandsOf, commandAs}
-use Rattle.link.proofs.Outputs.{commands-same, then-one, did-is, link-is, whole-count, whole-room, whole-pend}
+use Rattle.output.specs.declared.LinkCommand.the-variants.{Set}
+use Rattle.output.specs.Views.{commandsOf, commandAs}
+use Rattle.output.proofs.Outputs.{commands-same, then-one, whole-count, whole-room, whole-pend}
+use Rattle.link.proofs.Handlers.{did-is, link-is}
 use Rattle.link.proofs.Handlers.{none-ready, resentTo, resent-used, resent-next}
 use Rattle.link.proofs.resend.Statement.{statement}
 use Rattle.link.proofs.resend.Tie as tie

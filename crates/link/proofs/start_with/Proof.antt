@@ -4,9 +4,10 @@ use mathlib.Core.List.{[], _∷_}
 use Rattle.types.specs.Answers.{answerOf}
 use Rattle.rules.specs.Link as rules
 use Rattle.inner.specs.Views.{replyOf}
-use Rattle.link.specs.Views.{commandAs}
-use Rattle.link.proofs.Outputs.{went, did-is, link-is}
-use Rattle.link.specs.declared.LinkCommand.the-variants.{Set}
+use Rattle.output.specs.Views.{commandAs}
+use Rattle.output.proofs.Outputs.{went}
+use Rattle.link.proofs.Handlers.{did-is, link-is}
+use Rattle.output.specs.declared.LinkCommand.the-variants.{Set}
 use Rattle.link.proofs.Handlers.{none-ready, first-in, first-few, after, did-stops, did-goes}
 use borrow.Author.Needs.{needs}
 use Rattle.link.proofs.start_with.Statement.{statement}

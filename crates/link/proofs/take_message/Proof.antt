@@ -7,14 +7,16 @@ use Rattle.rules.specs.Outcome.{base}
 use Rattle.rules.specs.Link as rules
 use Rattle.inner.specs.Views.{replyOf}
 use Rattle.durable.specs.Views.{durableView}
-use Rattle.link.specs.Views.{linkView, commandAs}
-use Rattle.link.proofs.Outputs.{went, did-is, link-is}
+use Rattle.output.specs.Views.{commandAs}
+use Rattle.link.specs.Views.{linkView}
+use Rattle.output.proofs.Outputs.{went}
+use Rattle.link.proofs.Handlers.{did-is, link-is}
 use native.Mathlib.Omega.{arith}
 use lib.Dec.{lit≤}
 use Rattle.types.specs.declared.Message.the-variants.{Ack}
 use Rattle.rules.specs.Inner.{nobody}
-use Rattle.link.specs.declared.LinkCommand.the-variants.{Send}
-use Rattle.link.proofs.Outputs.{whole-pend, whole-took, output-small, told-few, ready-within}
+use Rattle.output.specs.declared.LinkCommand.the-variants.{Send}
+use Rattle.output.proofs.Outputs.{whole-pend, whole-took, output-small, told-few, ready-within}
 use Rattle.link.proofs.Handlers.{none-ready, first-in, first-few, after, did-stops, did-goes, taking-whole, taking-seen, saved-last}
 use borrow.Author.Needs.{needs}
 use Rattle.link.proofs.take_message.Statement.{statement}

@@ -3,8 +3,10 @@ use mathlib.Core.Path.{refl, ap, _∙_}
 use mathlib.Core.List.{[]}
 use Rattle.types.specs.Answers.{answerOf}
 use Rattle.rules.specs.Link as rules
-use Rattle.link.specs.Views.{linkView, commandsIn}
-use Rattle.link.proofs.Outputs.{went, did-is, link-is, commands-back}
+use Rattle.output.specs.Views.{commandsIn}
+use Rattle.link.specs.Views.{linkView}
+use Rattle.output.proofs.Outputs.{went, commands-back}
+use Rattle.link.proofs.Handlers.{did-is, link-is}
 use Rattle.link.proofs.Handlers.{none-few, after, did-stops, did-goes}
 use borrow.Author.Needs.{needs}
 use Rattle.link.proofs.timed.Statement.{statement}

@@ -1,7 +1,7 @@
-use Rattle.link.proofs.Outputs.{pushed}
+use Rattle.output.proofs.Outputs.{pushed}
 use borrow.Author.Needs.{needs}
-use Rattle.link.proofs.push.Statement.{statement}
-use Rattle.link.proofs.push.Tie as tie
+use Rattle.output.proofs.push.Statement.{statement}
+use Rattle.output.proofs.push.Tie as tie
 
 mul-list : tie.Need-mul-list
 mul-list c = search needs

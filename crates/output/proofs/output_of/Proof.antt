@@ -8,11 +8,11 @@ use Rattle.rules.specs.Outcome.{base}
 use Rattle.rules.specs.Inner.{nobody}
 use Rattle.inner.specs.Views.{replyOf}
 use Rattle.durable.specs.Views.{durableView}
-use Rattle.link.specs.Views.{commandsIn}
-use Rattle.link.proofs.Outputs.{whole-pend, whole-took, process-small, told-few, ready-within, output-stops, output-saves, output-plain}
+use Rattle.output.specs.Views.{commandsIn}
+use Rattle.output.proofs.Outputs.{whole-pend, whole-took, process-small, told-few, ready-within, output-stops, output-saves, output-plain}
 use borrow.Author.Needs.{needs}
-use Rattle.link.proofs.output_of.Statement.{statement}
-use Rattle.link.proofs.output_of.Tie as tie
+use Rattle.output.proofs.output_of.Statement.{statement}
+use Rattle.output.proofs.output_of.Tie as tie
 
 process-requires : tie.Need-process-requires
 process-requires c κs = search needs

@@ -1,7 +1,7 @@
 use Rattle.rules.specs.Link.{durably}
 use borrow.Author.Needs.{needs}
-use Rattle.link.proofs.is_durable.Statement.{statement}
-use Rattle.link.proofs.is_durable.Tie as tie
+use Rattle.output.proofs.is_durable.Statement.{statement}
+use Rattle.output.proofs.is_durable.Tie as tie
 
 enum-told : tie.Need-enum-told
 enum-told c = search needs

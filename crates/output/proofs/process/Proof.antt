@@ -14,12 +14,12 @@ use Rattle.rules.specs.Outcome.{base}
 use Rattle.rules.specs.Inner.{nobody}
 use Rattle.rules.specs.Link as rules
 use Rattle.durable.specs.Views.{durableView}
-use Rattle.link.specs.declared.Commands.{Commands}
-use Rattle.link.specs.Views.{commandsIn, commandsOf, outputAs, Whole}
-use Rattle.link.proofs.Outputs.{whole-pend, whole-took, process-small, turn-stops, turn-goes, process-end, ready, outside}
-use Rattle.link.proofs.Handlers.{tellings, next-told, told-end}
-use Rattle.link.proofs.process.Statement.{statement}
-use Rattle.link.proofs.process.Tie as tie
+use Rattle.output.specs.declared.Commands.{Commands}
+use Rattle.output.specs.Views.{commandsIn, commandsOf, outputAs, Whole}
+use Rattle.output.proofs.Outputs.{whole-pend, whole-took, process-small, turn-stops, turn-goes, process-end, ready, outside}
+use Rattle.output.proofs.Loops.{tellings, next-told, told-end}
+use Rattle.output.proofs.process.Statement.{statement}
+use Rattle.output.proofs.process.Tie as tie
 
 abbrev Inv-loop : tie.InvT-loop
 Inv-loop used told e₀ out₀ i₀ e out i = (used ≤ length told) × (used ≤ 4) × (i ≤ used) × Whole e × (out ≡ commandsOf (commandsIn out)) × (out .used ≤ i + 1)

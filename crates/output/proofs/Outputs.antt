@@ -30,14 +30,12 @@ use Rattle.inner.specs.Views.{replyOf}
 use Rattle.durable.specs.declared.Durable.{Durable}
 use Rattle.durable.specs.Views.{pendingList, takenList, durableView, durableAs, pendingsLaid, takenLaid, durableLaid}
 use Rattle.durable.proofs.Containers.{durable-parts, durable-is, durable-same, durable-fits, durable-back}
-use Rattle.link.specs.declared.Link.{Link}
-use Rattle.link.specs.declared.Did.{Did}
-use Rattle.link.specs.declared.LinkCommand.{LinkCommand}
-use Rattle.link.specs.declared.LinkCommand.the-variants.{Set, Save}
-use Rattle.link.specs.declared.CommandSlot.{CommandSlot}
-use Rattle.link.specs.declared.Commands.{Commands}
-use Rattle.link.specs.declared.Output.{Output}
-use Rattle.link.specs.Views.{slot, commandsIn, commandsOf, commandAs, outputAs, Whole}
+use Rattle.output.specs.declared.LinkCommand.{LinkCommand}
+use Rattle.output.specs.declared.LinkCommand.the-variants.{Set, Save}
+use Rattle.output.specs.declared.CommandSlot.{CommandSlot}
+use Rattle.output.specs.declared.Commands.{Commands}
+use Rattle.output.specs.declared.Output.{Output}
+use Rattle.output.specs.Views.{slot, commandsIn, commandsOf, commandAs, outputAs, Whole}
 
 -- ---- the commands that the struct holds
 unslotted : (l : List LinkCommand) → map (λ (s : CommandSlot). s .command) (map slot l) ≡ l
@@ -121,13 +119,6 @@ whole-of d n m e = record { test = e; same = durable-same d (durable-is d n m e)
 pub output-is : (g : Bool) (a : Answer) (d e : Durable) (cs es : Commands) → d ≡ e → cs ≡ es
     → _≡_ {A = Output} (record { going = g; answer = a; durable = d; commands = cs }) (record { going = g; answer = a; durable = e; commands = es })
 output-is g a d e cs es p q = λ i. record { going = g; answer = a; durable = p i; commands = q i }
-
-pub did-is : (a b : Answer) (l m : Link) (t : Bool) (cs es : Commands) → a ≡ b → l ≡ m → cs ≡ es
-    → _≡_ {A = Did} (record { answer = a; link = l; touched = t; commands = cs }) (record { answer = b; link = m; touched = t; commands = es })
-did-is a b l m t cs es o p q = λ i. record { answer = o i; link = p i; touched = t; commands = q i }
-
-pub link-is : (d e : Durable) (s t : ℕ) → d ≡ e → s ≡ t → _≡_ {A = Link} (record { durable = d; state = s }) (record { durable = e; state = t })
-link-is d e s t p q = λ i. record { durable = p i; state = q i }
 
 -- ---- one command, then the others
 joined : rules.Output → rules.Output → Outcome rules.Output

@@ -1,7 +1,7 @@
-use Rattle.link.proofs.Outputs.{output-is}
+use Rattle.output.proofs.Outputs.{output-is}
 use borrow.Author.Needs.{needs}
-use Rattle.link.proofs.stopped.Statement.{statement}
-use Rattle.link.proofs.stopped.Tie as tie
+use Rattle.output.proofs.stopped.Statement.{statement}
+use Rattle.output.proofs.stopped.Tie as tie
 
 fresh-durable-requires : tie.Need-fresh-durable-requires
 fresh-durable-requires c κs = search needs

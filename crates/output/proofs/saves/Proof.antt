@@ -7,9 +7,9 @@ use lib.ListN.{length, take, drop}
 use Rattle.lists.specs.Lists.{all}
 use Rattle.lists.proofs.Places.{length-mapped}
 use Rattle.lists.proofs.Walks.{walk-on, walk-fails, walk-ends}
-use Rattle.link.proofs.Outputs.{passing, saves-any, outside}
-use Rattle.link.proofs.saves.Statement.{statement}
-use Rattle.link.proofs.saves.Tie as tie
+use Rattle.output.proofs.Outputs.{passing, saves-any, outside}
+use Rattle.output.proofs.saves.Statement.{statement}
+use Rattle.output.proofs.saves.Tie as tie
 
 abbrev Inv-loop : tie.InvT-loop
 Inv-loop used told i₀ i = (i ≤ used) × (all passing (drop i (take used told)) ≡ all passing (take used told))

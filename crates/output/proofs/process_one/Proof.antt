@@ -3,11 +3,11 @@ use mathlib.Core.Bool.{true}
 use Rattle.types.specs.Answers.{answerOf}
 use Rattle.rules.specs.Outcome.{bind}
 use Rattle.rules.specs.Link.{process, also}
-use Rattle.link.specs.Views.{commandAs}
-use Rattle.link.proofs.Outputs.{output-is, unsent}
+use Rattle.output.specs.Views.{commandAs}
+use Rattle.output.proofs.Outputs.{output-is, unsent}
 use borrow.Author.Needs.{needs}
-use Rattle.link.proofs.process_one.Statement.{statement}
-use Rattle.link.proofs.process_one.Tie as tie
+use Rattle.output.proofs.process_one.Statement.{statement}
+use Rattle.output.proofs.process_one.Tie as tie
 
 enum-known-c : tie.Need-enum-known-c
 enum-known-c c = search needs

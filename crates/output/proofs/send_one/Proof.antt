@@ -4,11 +4,11 @@ use mathlib.Core.Bool.{true}
 use Rattle.types.specs.Answers.{answerOf}
 use Rattle.rules.specs.Outcome.{base}
 use Rattle.durable.specs.Views.{durableView}
-use Rattle.link.specs.Views.{commandsIn, commandAs, outputAs}
-use Rattle.link.proofs.Outputs.{whole-count, output-is, send-six, send-seven, send-goes}
+use Rattle.output.specs.Views.{commandsIn, commandAs, outputAs}
+use Rattle.output.proofs.Outputs.{whole-count, output-is, send-six, send-seven, send-goes}
 use borrow.Author.Needs.{needs}
-use Rattle.link.proofs.send_one.Statement.{statement}
-use Rattle.link.proofs.send_one.Tie as tie
+use Rattle.output.proofs.send_one.Statement.{statement}
+use Rattle.output.proofs.send_one.Tie as tie
 
 stopped-requires : tie.Need-stopped-requires
 stopped-requires c κs = search needs

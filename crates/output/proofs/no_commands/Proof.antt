@@ -1,7 +1,7 @@
 use mathlib.Core.Path.{refl}
 use Rattle.lists.specs.Lists.{pad}
-use Rattle.link.proofs.no_commands.Statement.{statement}
-use Rattle.link.proofs.no_commands.Tie as tie
+use Rattle.output.proofs.no_commands.Statement.{statement}
+use Rattle.output.proofs.no_commands.Tie as tie
 
 returns : tie.Need-returns
 unfolding pad
