@@ -273,8 +273,8 @@ turn-end i n a list used net act g rs =
     ∙ (λ y. record { answer = Done; network = same-net rs net act (g .ready) (g .laid) y; actor = same-actor rs net act (g .ready) (g .laid) y }))
 
 -- The commands of a struct, from the first on.
-pub all-of : (d : rules.Durable) (cs : Commands) → map (commandView d) (commandsIn cs) ≡ restOf d (cs .list) (cs .used) 0
-all-of d cs = map-map (commandView d) (λ (s : CommandSlot). s .command) (take (cs .used) (cs .list))
+pub all-of : (d : rules.Durable) (cs : Commands) (u : ℕ) → take u (cs .list) ≡ take (cs .used) (cs .list) → map (commandView d) (commandsIn cs) ≡ restOf d (cs .list) u 0
+all-of d cs u e = map-map (commandView d) (λ (s : CommandSlot). s .command) (take (cs .used) (cs .list)) ∙ ap (map (λ (s : CommandSlot). commandView d (s .command))) (sym e)
 
 -- ---- what was refused further on
 abbrev refusal : ℕ → Bool

@@ -16,7 +16,9 @@ use types::Message;
 ghost use mathlib.Core.Path.{_≡_};
 ghost use mathlib.Core.Bool.{true};
 ghost use mathlib.Core.List.{List, _∷_, [], map};
-ghost use Prim.Native.Nat.{_≤_};
+ghost use Prim.Native.Nat.{_≤_, _<_};
+ghost use lib.ListN.{length, take};
+ghost use Rattle.output.specs.declared.CommandSlot.{CommandSlot};
 ghost use Rattle.types.specs.declared.Rule.{Rule};
 ghost use Rattle.rules.specs.Outcome.{base};
 ghost use Rattle.types.specs.declared.Answer.the-variants.{Done};
@@ -129,13 +131,23 @@ fn run_command(i: Id, n: Network, a: Actor, c: LinkCommand) -> Touched
     }
 }
 
+// How many of 33 places are used, whatever the count says.
+fn in_use(used: usize) -> usize
+    ensures { λ r. ⌜ (r ≤ 33) × ((l : List CommandSlot) → length l ≡ 33 → take r l ≡ take used l) ⌝ }
+{
+    if 33 < used {
+        return 33;
+    }
+    used
+}
+
 // All of them, or the first refusal with everything as it was.
 fn run_commands(i: Id, n: Network, a: Actor, cs: Commands) -> Touched
-    requires { ⌜ NetReady n × ActorLaid a × (cs .used ≤ 33) ⌝ }
+    requires { ⌜ NetReady n × ActorLaid a ⌝ }
     ensures { λ x. ⌜ ((rs : List Rule) → x ≡ touchedOf n a (runPart (base .room) i (map (commandView (durableView (a .link .durable))) (commandsIn cs)) (partView rs n a))) ⌝ }
 {
     let list = cs.list;
-    let used = cs.used;
+    let used = in_use(cs.used);
     let mut net = n;
     let mut act = a;
     let mut j = 0;
@@ -202,7 +214,7 @@ fn back(x: Touched, n: Network, a: Actor) -> Touched
 
 // The link that a handler answered is put in place, then its commands run.
 fn finish(i: Id, n: Network, a: Actor, d: Did) -> Touched
-    requires { ⌜ NetReady n × ActorLaid a × (d .commands .used ≤ 33) × (d .link ≡ linkAs (linkView (d .link))) ⌝ }
+    requires { ⌜ NetReady n × ActorLaid a × (d .link ≡ linkAs (linkView (d .link))) ⌝ }
     ensures { λ x. ⌜ ((rs : List Rule) → x ≡ touchedOf n a (finishPart base i (partView rs n a) (didView d))) ⌝ }
 {
     let l = d.link;

@@ -11,7 +11,7 @@ with-link-requires c κs = search needs
 run-commands-requires : tie.Need-run-commands-requires
 run-commands-requires c κs =
     let s = c .before .before .before in
-    (s .pre .0, linked (s .args .a) (s .args .d .link) _ (s .pre .1) (s .pre .3) (c .with-link .ensures), s .pre .2)
+    (s .pre .0, linked (s .args .a) (s .args .d .link) _ (s .pre .1) (s .pre .2) (c .with-link .ensures))
 
 back-requires : tie.Need-back-requires
 back-requires c κs = search needs
