@@ -54,7 +54,7 @@ unfolding storedView choose
 stored-back none = refl
 stored-back (some d) = ap some (durable-back d)
 
-link-back : (l : rules.Link) → linkView (linkAs l) ≡ l
+pub link-back : (l : rules.Link) → linkView (linkAs l) ≡ l
 link-back l = λ i. record { durable = durable-back (l .durable) i; state = l .state }
 
 pub actor-back : (a : Actor) → TimerSet (a .timers) → actorView (a .rules) (actorAs a) ≡ a
@@ -277,7 +277,7 @@ pub all-of : (d : rules.Durable) (cs : Commands) (u : ℕ) → take u (cs .list)
 all-of d cs u e = map-map (commandView d) (λ (s : CommandSlot). s .command) (take (cs .used) (cs .list)) ∙ ap (map (λ (s : CommandSlot). commandView d (s .command))) (sym e)
 
 -- ---- what was refused further on
-abbrev refusal : ℕ → Bool
+abbrev pub refusal : ℕ → Bool
 refusal k = not (isDone (answerOf k))
 
 pub back-touched : (n n′ : Network) (a b : Struct) (m : Outcome Part) → Among refusal m → backTo n a (touchedOf n′ b m) ≡ touchedOf n a m

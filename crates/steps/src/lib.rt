@@ -2,6 +2,7 @@
 use actor::Actor;
 use actor::is_done;
 use durable::Stored;
+use inner::Table;
 use output::Commands;
 use link::Did;
 use link::Link;
@@ -26,11 +27,12 @@ ghost use Rattle.rules.specs.Timers.{setTimer, cancelTimer};
 ghost use Rattle.rules.specs.Network.{send};
 ghost use Rattle.timers.specs.Views.{listed, timersOf};
 ghost use Rattle.network.specs.Views.{netView, NetReady, sentOf};
-ghost use Rattle.durable.specs.Views.{durableView};
+ghost use Rattle.inner.specs.Views.{rulesOf, tableOk};
+ghost use Rattle.durable.specs.Views.{durableView, durableLaid, storedLaid};
 ghost use Rattle.link.specs.Views.{linkView, linkAs};
 ghost use Rattle.output.specs.Views.{commandView, commandsIn};
-ghost use Rattle.parts.specs.Parts.{runPart, finishPart};
-ghost use Rattle.actor.specs.Views.{ActorLaid};
+ghost use Rattle.parts.specs.Parts.{runPart, finishPart, wakePart, deliverPart, crashPart, recoverPart};
+ghost use Rattle.actor.specs.Views.{actorAs, ActorLaid};
 ghost use Rattle.steps.specs.Views.{partView, didView, touchedOf, backTo};
 
 // Where the answer is not Done, network and actor are those that came.
@@ -221,5 +223,80 @@ fn finish(i: Id, n: Network, a: Actor, d: Did) -> Touched
     let cs = d.commands;
     let b = with_link(a, l);
     let x = run_commands(i, n, b, cs);
+    back(x, n, a)
+}
+
+// ---- the actions, after 2 and Ignored for the destination
+// A message to a live actor: its envelope is delivered, then the commands run.
+pub fn deliver(e: Envelope, n: Network, a: Actor, t: Table) -> Touched
+    requires { ⌜ NetReady n × ActorLaid a × (tableOk t ≡ true) × (durableLaid (a .link .durable) ≡ true) × (e .src .0 < 8) ⌝ }
+    ensures { λ x. ⌜ x ≡ touchedOf n a (deliverPart base e (partView (rulesOf t) n a)) ⌝ }
+{
+    let s = network::on_deliver(n, e);
+    let found = s.answer;
+    if !is_done(found) {
+        return refused(found, n, a);
+    }
+    let after = s.network;
+    let l = a.link;
+    let source = e.src;
+    let message = e.msg;
+    let d = link::on_msg(t, l, source, message);
+    let told = d.answer;
+    if !is_done(told) {
+        return refused(told, n, a);
+    }
+    let i = e.dst;
+    let x = finish(i, after, a, d);
+    back(x, n, a)
+}
+
+// Start, on what is stored.
+pub fn wake(i: Id, n: Network, a: Actor, t: Table) -> Touched
+    requires { ⌜ NetReady n × ActorLaid a × (tableOk t ≡ true) × (storedLaid (a .stored) ≡ true) ⌝ }
+    ensures { λ x. ⌜ x ≡ touchedOf n a (wakePart base i (partView (rulesOf t) n a)) ⌝ }
+{
+    let s = a.stored;
+    let d = link::on_start(t, s);
+    let told = d.answer;
+    if !is_done(told) {
+        return refused(told, n, a);
+    }
+    finish(i, n, a, d)
+}
+
+fn mark(a: Actor, crashed: bool, timers: Timers) -> Actor
+    ensures { λ r. ⌜ r ≡ record { crashed = crashed; timers = timers; link = a .link; stored = a .stored } ⌝ }
+{
+    let l = a.link;
+    let s = a.stored;
+    Actor {
+        crashed: crashed,
+        timers: timers,
+        link: l,
+        stored: s,
+    }
+}
+
+// Timers are cleared and the actor is marked.
+pub fn crash(a: Actor) -> Actor
+    requires { ⌜ ActorLaid a ⌝ }
+    ensures { λ r. ⌜ ((rs : List Rule) (n : Network) → r ≡ actorAs (crashPart (partView rs n a) .actor)) ⌝ }
+{
+    let t = a.timers.cancel_all();
+    mark(a, true, t)
+}
+
+// A live actor is refused; a crashed one starts on what is stored.
+pub fn recover(i: Id, n: Network, a: Actor, t: Table) -> Touched
+    requires { ⌜ NetReady n × ActorLaid a × (tableOk t ≡ true) × (storedLaid (a .stored) ≡ true) ⌝ }
+    ensures { λ x. ⌜ x ≡ touchedOf n a (recoverPart base i (partView (rulesOf t) n a)) ⌝ }
+{
+    if !a.crashed {
+        return refused(Answer::Live, n, a);
+    }
+    let ts = a.timers;
+    let b = mark(a, false, ts);
+    let x = wake(i, n, b, t);
     back(x, n, a)
 }

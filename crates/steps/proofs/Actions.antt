@@ -1,0 +1,188 @@
+-- The actions on a part: what the tests of the answers say of the rules' outcomes.
+-- Assumes nothing.
+use Prim.Native.Nat.{ℕ, _<_}
+use mathlib.Core.Path.{_≡_, refl, sym, ap, ap₂, _∙_, subst}
+use mathlib.Core.Bool.{Bool, true, false, not, true≢false, false≢true}
+use mathlib.Core.Option.{Option}
+use mathlib.Core.List.{List, [], map}
+use Rattle.lists.specs.Lists.{choose}
+use Rattle.lists.proofs.Members.{not-true}
+use Rattle.types.specs.declared.Id.{Id}
+use Rattle.types.specs.declared.Answer.{Answer}
+use Rattle.types.specs.declared.Envelope.{Envelope}
+use Rattle.types.specs.declared.Rule.{Rule}
+use Rattle.types.specs.Answers.{answerOf}
+use Rattle.rules.specs.Outcome.{Outcome, done, refused, bind, guard, Caps, base}
+use Rattle.rules.specs.Network.{Net, onDeliver}
+use Rattle.rules.specs.Link as rules
+use Rattle.rules.specs.System.{Actor, withLink, withMark}
+use Rattle.types.specs.declared.Answer.the-variants.{Live}
+use Rattle.timers.specs.declared.Timers.{Timers}
+use Rattle.timers.specs.Views.{timersOf}
+use Rattle.rules.specs.Timers.{noTimers}
+use Rattle.durable.specs.Views.{storedView}
+use Rattle.rules.proofs.Laws.{Holds}
+use Rattle.rules.proofs.Answers.{Among, on-done, on-guard, on-msg, on-started, on-timeout}
+use Rattle.network.specs.declared.Network.{Network}
+use Rattle.network.specs.declared.Sent.{Sent}
+use Rattle.network.specs.Views.{netView, networkOf, NetReady, sentOf}
+use Rattle.network.proofs.Ready.{viewed, deliver-ready}
+use Rattle.link.specs.declared.Link.{Link}
+use Rattle.link.specs.declared.Did.{Did}
+use Rattle.link.specs.Views.{linkView, linkAs, didAs, toldBy}
+use Rattle.link.proofs.Saves.{Alike, told-back, start-tells, msg-tells, timeout-tells}
+use Rattle.parts.specs.Parts.{Part, netIn, actorIn, runPart, finishPart, wakePart, deliverPart, crashPart, recoverPart}
+use Rattle.parts.proofs.Answers.{on-finish, on-wake}
+use Rattle.actor.specs.declared.Actor.{Actor as Struct}
+use Rattle.actor.specs.Views.{actorView, actorAs, ActorLaid, isDone}
+use Rattle.steps.specs.declared.Touched.{Touched}
+use Rattle.steps.specs.Views.{partView, didView, touchedOf, backTo}
+use Rattle.steps.proofs.Laws.{refusal, link-back, back-touched}
+
+-- The answer of an outcome.
+abbrev answerIn : {A : Type 0} → Outcome A → Answer
+answerIn (done a) = answerOf 0
+answerIn (refused k) = answerOf k
+
+done-of : {A : Type 0} (m : Outcome A) → Among refusal m → isDone (answerIn m) ≡ true → (a : A) × (m ≡ done a)
+unfolding Among
+done-of (done a) r e = (a, refl)
+done-of (refused k) r e = absurd (false≢true (sym (not-true _ r) ∙ e))
+
+refused-of : {A : Type 0} (m : Outcome A) → isDone (answerIn m) ≡ false → (k : ℕ) × (m ≡ refused k)
+unfolding answerOf
+refused-of (done a) e = absurd (true≢false e)
+refused-of (refused k) e = (k, refl)
+
+-- The first of two outcomes was refused.
+pub first-refused : {A : Type 0} (n : Network) (a : Struct) (m : Outcome A) (k : A → Outcome Part) (x : Answer) → x ≡ answerIn m → isDone x ≡ false
+    → _≡_ {A = Touched} (record { answer = x; network = n; actor = a }) (touchedOf n a (bind m k))
+unfolding bind
+first-refused n a m k x e h =
+    let z = refused-of m (sym (ap isDone e) ∙ h) in
+    (λ i. record { answer = e i; network = n; actor = a }) ∙ rw (z .1)
+
+sent-answer : (n : Network) (m : Outcome Net) → sentOf n m .answer ≡ answerIn m
+sent-answer n (done x) = refl
+sent-answer n (refused k) = refl
+
+did-answer : (l : Link) (m : Outcome rules.Did) → didAs l m .answer ≡ answerIn m
+did-answer l (done x) = refl
+did-answer l (refused k) = refl
+
+-- ---- what a handler answered
+-- It is done: the rules' answer, with its link laid out and its commands told.
+pub record Told (l : Link) (m : Outcome rules.Did) (d : Did) : Type 0 where
+  pub did : rules.Did
+  pub is : m ≡ done did
+  pub laid : d .link ≡ linkAs (linkView (d .link))
+  pub link : linkView (d .link) ≡ did .link
+  pub touched : d .touched ≡ did .touched
+  pub commands : toldBy d ≡ did .commands
+
+told : (l : Link) (m : Outcome rules.Did) (d : Did) → d ≡ didAs l m → Among refusal m → Holds (λ h. Alike (h .link .durable) (h .commands)) m → isDone (d .answer) ≡ true → Told l m d
+told l m d e r a h =
+    let z = done-of m r (sym (ap isDone (ap (λ (x : Did). x .answer) e ∙ did-answer l m)) ∙ h) in
+    let f : d ≡ didAs l (done (z .0)) = e ∙ ap (didAs l) (z .1) in
+    subst (λ (x : Did). Told l m x) (sym f) (record {
+      did = z .0;
+      is = z .1;
+      laid = ap linkAs (sym (link-back (z .0 .link)));
+      link = link-back (z .0 .link);
+      touched = refl;
+      commands = told-back l (z .0) (a .value (z .0) (z .1));
+    })
+
+-- Then the commands run as the rules say.
+finish-same : (c : Caps) (i : Id) (p : Part) (d : Did) (h : rules.Did) → linkView (d .link) ≡ h .link → toldBy d ≡ h .commands → finishPart c i p (didView d) ≡ finishPart c i p h
+unfolding finishPart actorIn
+finish-same c i p d h e f = ap₂ (λ (l : rules.Link) (cs : List rules.Command). runPart (c .room) i cs (record { net = p .net; actor = withLink l (p .actor) })) e f
+
+-- ---- Deliver
+module _ (rs : List Rule) (n : Network) (a : Struct) (e : Envelope) (s : Sent) (told-sent : s ≡ sentOf n (onDeliver e (netView n))) where
+  abbrev msg : Outcome rules.Did
+  msg = rules.onMsg (base .limits) (e .dst) rs (linkView (a .link)) (e .src) (e .msg)
+
+  answered : s .answer ≡ answerIn (onDeliver e (netView n))
+  answered = ap (λ (x : Sent). x .answer) told-sent ∙ sent-answer n (onDeliver e (netView n))
+
+  pub deliver-absent : isDone (s .answer) ≡ false → _≡_ {A = Touched} (record { answer = s .answer; network = n; actor = a }) (touchedOf n a (deliverPart base e (partView rs n a)))
+  unfolding deliverPart
+  deliver-absent h = first-refused n a (onDeliver e (netView n)) _ (s .answer) answered h
+
+  found : isDone (s .answer) ≡ true → (x : Net) × (onDeliver e (netView n) ≡ done x)
+  unfolding onDeliver answerOf
+  found h = done-of (onDeliver e (netView n)) (on-guard refusal refl refl refl _ _ _ refl (on-done refusal refl refl refl _)) (sym (ap isDone answered) ∙ h)
+
+  -- from here on the envelope is gone from the network
+  goes : (h : isDone (s .answer) ≡ true) → deliverPart base e (partView rs n a) ≡ bind msg (finishPart base (e .dst) (netIn (found h .0) (partView rs n a)))
+  unfolding deliverPart bind
+  goes h = rw (found h .1)
+
+  module _ (d : Did) (told-did : d ≡ didAs (a .link) msg) (h : isDone (s .answer) ≡ true) where
+    pub deliver-refused : isDone (d .answer) ≡ false → _≡_ {A = Touched} (record { answer = d .answer; network = n; actor = a }) (touchedOf n a (deliverPart base e (partView rs n a)))
+    deliver-refused k = first-refused n a msg _ (d .answer) (ap (λ (x : Did). x .answer) told-did ∙ did-answer (a .link) msg) k ∙ sym (ap (touchedOf n a) (goes h))
+
+    pub deliver-told : isDone (d .answer) ≡ true → Told (a .link) msg d
+    unfolding answerOf
+    deliver-told k = told (a .link) msg d told-did (on-msg refusal refl refl refl (base .limits) (e .dst) rs _ (e .src) (e .msg)) (msg-tells (base .limits) (e .dst) rs _ (e .src) (e .msg)) k
+
+    pub deliver-ready-after : NetReady n → NetReady (s .network)
+    deliver-ready-after r = subst (λ (x : Sent). NetReady (x .network)) (sym told-sent) (deliver-ready n r e)
+
+    pub deliver-goes : NetReady n → (k : isDone (d .answer) ≡ true) (y : Touched) → y ≡ touchedOf (s .network) a (finishPart base (e .dst) (partView rs (s .network) a) (didView d))
+        → backTo n a y ≡ touchedOf n a (deliverPart base e (partView rs n a))
+    unfolding bind netIn answerOf
+    deliver-goes r k y f =
+        let z = deliver-told k in
+        let x = found h .0 in
+        let w : s .network ≡ networkOf x = ap (λ (q : Sent). q .network) (told-sent ∙ ap (sentOf n) (found h .1)) in
+        let v : netView (s .network) ≡ x = ap netView w ∙ viewed x (subst (λ (q : Network). NetReady q) w (deliver-ready-after r) .laid .fit) in
+        let p : partView rs (s .network) a ≡ netIn x (partView rs n a) = λ i. record { net = v i; actor = actorView rs a } in
+        ap (backTo n a) (f ∙ ap (λ (q : Part). touchedOf (s .network) a (finishPart base (e .dst) q (didView d))) p)
+        ∙ back-touched n (s .network) a a _ (on-finish refusal refl refl refl base (e .dst) _ _)
+        ∙ ap (touchedOf n a) (finish-same base (e .dst) (netIn x (partView rs n a)) d (z .did) (z .link) (z .commands) ∙ sym (ap (λ (o : Outcome rules.Did). bind o (finishPart base (e .dst) (netIn x (partView rs n a)))) (z .is)) ∙ sym (goes h))
+
+-- ---- Start on what is stored
+module _ (rs : List Rule) (i : Id) (n : Network) (a : Struct) (l : Link) (d : Did) where
+  abbrev begun : Outcome rules.Did
+  begun = rules.onStart (base .limits) i rs (storedView (a .stored))
+
+  module _ (told-did : d ≡ didAs l begun) where
+    pub wake-refused : isDone (d .answer) ≡ false → _≡_ {A = Touched} (record { answer = d .answer; network = n; actor = a }) (touchedOf n a (wakePart base i (partView rs n a)))
+    unfolding wakePart
+    wake-refused k = first-refused n a begun _ (d .answer) (ap (λ (x : Did). x .answer) told-did ∙ did-answer l begun) k
+
+    pub wake-told : isDone (d .answer) ≡ true → Told l begun d
+    unfolding answerOf
+    wake-told k = told l begun d told-did (on-started refusal refl refl refl (base .limits) i rs _) (start-tells (base .limits) i rs _) k
+
+    pub wake-goes : isDone (d .answer) ≡ true → touchedOf n a (finishPart base i (partView rs n a) (didView d)) ≡ touchedOf n a (wakePart base i (partView rs n a))
+    unfolding wakePart bind
+    wake-goes k =
+        let z = wake-told k in
+        ap (touchedOf n a) (finish-same base i (partView rs n a) d (z .did) (z .link) (z .commands) ∙ sym (ap (λ (o : Outcome rules.Did). bind o (finishPart base i (partView rs n a))) (z .is)))
+
+-- ---- Recover
+abbrev pub markIn : Struct → Bool → Timers → Struct
+markIn a b t = record { crashed = b; timers = t; link = a .link; stored = a .stored }
+
+pub marked : (a : Struct) (f : Bool) (b : Struct) → ActorLaid a → b ≡ markIn a f (a .timers) → ActorLaid b
+marked a f b h e = subst (λ (x : Struct). ActorLaid x) (sym e) (λ i. record { crashed = f; timers = h i .timers; link = h i .link; stored = h i .stored })
+
+-- A crash, in structs.
+pub crashed : (rs : List Rule) (n : Network) (a : Struct) → ActorLaid a → markIn a true (timersOf noTimers) ≡ actorAs (crashPart (partView rs n a) .actor)
+unfolding crashPart actorIn withMark
+crashed rs n a h = λ i. record { crashed = true; timers = timersOf noTimers; link = h i .link; stored = h i .stored }
+
+module _ (rs : List Rule) (i : Id) (n : Network) (a : Struct) where
+  pub recover-live : a .crashed ≡ false → _≡_ {A = Touched} (record { answer = Live; network = n; actor = a }) (touchedOf n a (recoverPart base i (partView rs n a)))
+  unfolding recoverPart guard answerOf
+  recover-live e = rw e
+
+  pub recover-wakes : (b : Struct) → b ≡ markIn a false (a .timers) → a .crashed ≡ true → backTo n a (touchedOf n b (wakePart base i (partView rs n b))) ≡ touchedOf n a (recoverPart base i (partView rs n a))
+  unfolding recoverPart guard answerOf actorIn withMark
+  recover-wakes b f e =
+      ap (λ (x : Struct). backTo n a (touchedOf n x (wakePart base i (partView rs n x)))) f
+      ∙ back-touched n n a (markIn a false (a .timers)) _ (on-wake refusal refl refl refl base i _)
+      ∙ rw e
