@@ -1,10 +1,14 @@
 -- The actions on a part: what the tests of the answers say of the rules' outcomes.
 -- Assumes nothing.
 use Prim.Native.Nat.{ℕ, _<_}
+use native.Mathlib.Omega.{arith}
+use lib.Dec.{lit<}
+use lib.ListN.{length, getD, take, length-map, length-take}
+use lib.Seq.{slice-cons, slice-empty}
 use mathlib.Core.Path.{_≡_, refl, sym, ap, ap₂, _∙_, subst}
-use mathlib.Core.Bool.{Bool, true, false, not, true≢false, false≢true}
+use mathlib.Core.Bool.{Bool, true, false, not, _&&_, true≢false, false≢true}
 use mathlib.Core.Option.{Option}
-use mathlib.Core.List.{List, [], map}
+use mathlib.Core.List.{List, [], _∷_, map}
 use Rattle.lists.specs.Lists.{choose}
 use Rattle.lists.proofs.Members.{not-true}
 use Rattle.types.specs.declared.Id.{Id}
@@ -15,11 +19,13 @@ use Rattle.types.specs.Answers.{answerOf}
 use Rattle.rules.specs.Outcome.{Outcome, done, refused, bind, guard, Caps, base}
 use Rattle.rules.specs.Network.{Net, onDeliver}
 use Rattle.rules.specs.Link as rules
-use Rattle.rules.specs.System.{Actor, withLink, withMark}
-use Rattle.types.specs.declared.Answer.the-variants.{Live}
+use Rattle.rules.specs.System.{Actor, withTimers, withLink, withMark, onlySets}
+use Rattle.types.specs.declared.Answer.the-variants.{Live, NotSet, Ignored}
 use Rattle.timers.specs.declared.Timers.{Timers}
-use Rattle.timers.specs.Views.{timersOf}
-use Rattle.rules.specs.Timers.{noTimers}
+use Rattle.timers.specs.Views.{listed, timersOf}
+use Rattle.rules.specs.Timers.{noTimers, isSet, cancelTimer}
+use Rattle.rules.proofs.Timers.{cancel-timers}
+use Rattle.timers.proofs.Listed.{listed-timers, listed-timers-of}
 use Rattle.durable.specs.Views.{storedView}
 use Rattle.rules.proofs.Laws.{Holds}
 use Rattle.rules.proofs.Answers.{Among, on-done, on-guard, on-msg, on-started, on-timeout}
@@ -27,11 +33,14 @@ use Rattle.network.specs.declared.Network.{Network}
 use Rattle.network.specs.declared.Sent.{Sent}
 use Rattle.network.specs.Views.{netView, networkOf, NetReady, sentOf}
 use Rattle.network.proofs.Ready.{viewed, deliver-ready}
+use Rattle.output.specs.declared.CommandSlot.{CommandSlot}
+use Rattle.output.specs.declared.Commands.{Commands}
+use Rattle.output.specs.Views.{commandView, commandsIn}
 use Rattle.link.specs.declared.Link.{Link}
 use Rattle.link.specs.declared.Did.{Did}
 use Rattle.link.specs.Views.{linkView, linkAs, didAs, toldBy}
 use Rattle.link.proofs.Saves.{Alike, told-back, start-tells, msg-tells, timeout-tells}
-use Rattle.parts.specs.Parts.{Part, netIn, actorIn, runPart, finishPart, wakePart, deliverPart, crashPart, recoverPart}
+use Rattle.parts.specs.Parts.{Part, netIn, actorIn, runPart, finishPart, wakePart, deliverPart, timedPart, timeoutPart, crashPart, recoverPart}
 use Rattle.parts.proofs.Answers.{on-finish, on-wake}
 use Rattle.actor.specs.declared.Actor.{Actor as Struct}
 use Rattle.actor.specs.Views.{actorView, actorAs, ActorLaid, isDone}
@@ -186,3 +195,83 @@ module _ (rs : List Rule) (i : Id) (n : Network) (a : Struct) where
       ap (λ (x : Struct). backTo n a (touchedOf n x (wakePart base i (partView rs n x)))) f
       ∙ back-touched n n a (markIn a false (a .timers)) _ (on-wake refusal refl refl refl base i _)
       ∙ rw e
+
+-- ---- Timeout
+-- A list of another length than 1 does not only set a timer.
+pub only-one : (t : ℕ) (l : List rules.Command) → (length l ≡ 1 → ⊥) → onlySets t l ≡ false
+unfolding onlySets
+only-one t [] h = refl
+only-one t (rules.Set u ∷ []) h = absurd (h refl)
+only-one t (rules.Set u ∷ (x ∷ l)) h = refl
+only-one t (rules.Cancel u ∷ l) h = refl
+only-one t (rules.Send r m ∷ l) h = refl
+only-one t (rules.Save d ∷ l) h = refl
+
+pub told-length : (d : rules.Durable) (cs : Commands) → length (cs .list) ≡ 33 → (cs .used ≡ 1 → ⊥) → length (map (commandView d) (commandsIn cs)) ≡ 1 → ⊥
+told-length d cs h k e =
+    let m : length (map (commandView d) (commandsIn cs)) ≡ length (take (cs .used) (cs .list)) = length-map (commandsIn cs) (commandView d) ∙ length-map (take (cs .used) (cs .list)) (λ (s : CommandSlot). s .command) in
+    k (omega (arith, m, length-take (cs .used) (cs .list)))
+
+pub told-first : (d : rules.Durable) (cs : Commands) (z : CommandSlot) → length (cs .list) ≡ 33 → cs .used ≡ 1 → map (commandView d) (commandsIn cs) ≡ commandView d (getD (cs .list) 0 z .command) ∷ []
+told-first d cs z h k =
+    rw k (ap (λ (l : List CommandSlot). map (commandView d) (map (λ (s : CommandSlot). s .command) l)) (slice-cons 0 1 (cs .list) z (lit< tt) (omega arith) ∙ ap (λ (l : List CommandSlot). getD (cs .list) 0 z ∷ l) (slice-empty 1 (cs .list))))
+
+-- The actor with a timer cancelled is laid out.
+pub timers-laid : (a : Struct) (t : ℕ) (b : Struct) → ActorLaid a → b ≡ markIn a (a .crashed) (timersOf (cancelTimer t (listed (a .timers .0)))) → ActorLaid b
+timers-laid a t b h e =
+    let v = ap timersOf (sym (listed-timers-of (cancelTimer t (listed (a .timers .0))) (cancel-timers t _ (listed-timers (a .timers .0))))) in
+    subst (λ (x : Struct). ActorLaid x) (sym e) (λ i. record { crashed = a .crashed; timers = v i; link = h i .link; stored = h i .stored })
+
+timed-ignored : (i : Id) (t : ℕ) (p : Part) (h : rules.Did) → (not (h .touched) && onlySets t (h .commands)) ≡ true → timedPart base i t p h ≡ refused 1
+unfolding timedPart guard
+timed-ignored i t p h e = rw e
+
+timed-goes : (i : Id) (t : ℕ) (p : Part) (h : rules.Did) → (not (h .touched) && onlySets t (h .commands)) ≡ false
+    → timedPart base i t p h ≡ finishPart base i (actorIn (withTimers (cancelTimer t (p .actor .timers)) (p .actor)) p) h
+unfolding timedPart guard
+timed-goes i t p h e = rw e
+
+module _ (rs : List Rule) (i : Id) (t : ℕ) (n : Network) (a : Struct) where
+  abbrev run-out : Outcome rules.Did
+  run-out = rules.onTimeout (base .limits) i rs (linkView (a .link)) t
+
+  pub timeout-unset : isSet t (listed (a .timers .0)) ≡ false → _≡_ {A = Touched} (record { answer = NotSet; network = n; actor = a }) (touchedOf n a (timeoutPart base i t (partView rs n a)))
+  unfolding timeoutPart guard answerOf
+  timeout-unset e = rw e
+
+  module _ (set : isSet t (listed (a .timers .0)) ≡ true) (d : Did) (told-did : d ≡ didAs (a .link) run-out) where
+    rings : timeoutPart base i t (partView rs n a) ≡ bind run-out (timedPart base i t (partView rs n a))
+    unfolding timeoutPart guard
+    rings = rw set
+
+    pub timeout-refused : isDone (d .answer) ≡ false → _≡_ {A = Touched} (record { answer = d .answer; network = n; actor = a }) (touchedOf n a (timeoutPart base i t (partView rs n a)))
+    timeout-refused k = first-refused n a run-out _ (d .answer) (ap (λ (x : Did). x .answer) told-did ∙ did-answer (a .link) run-out) k ∙ sym (ap (touchedOf n a) rings)
+
+    pub timeout-told : isDone (d .answer) ≡ true → Told (a .link) run-out d
+    unfolding answerOf
+    timeout-told k = told (a .link) run-out d told-did (on-timeout refusal refl refl refl (base .limits) i rs _ t) (timeout-tells (base .limits) i rs _ t) k
+
+    module _ (k : isDone (d .answer) ≡ true) where
+      renewed : (not (d .touched) && onlySets t (toldBy d)) ≡ (not (timeout-told k .did .touched) && onlySets t (timeout-told k .did .commands))
+      renewed = ap₂ (λ (b : Bool) (l : List rules.Command). not b && onlySets t l) (timeout-told k .touched) (timeout-told k .commands)
+
+      here : timeoutPart base i t (partView rs n a) ≡ timedPart base i t (partView rs n a) (timeout-told k .did)
+      unfolding bind
+      here = rings ∙ ap (λ (o : Outcome rules.Did). bind o (timedPart base i t (partView rs n a))) (timeout-told k .is)
+
+      pub timeout-ignored : (not (d .touched) && onlySets t (toldBy d)) ≡ true → _≡_ {A = Touched} (record { answer = Ignored; network = n; actor = a }) (touchedOf n a (timeoutPart base i t (partView rs n a)))
+      unfolding answerOf
+      timeout-ignored e = sym (ap (touchedOf n a) (here ∙ timed-ignored i t (partView rs n a) (timeout-told k .did) (sym renewed ∙ e)))
+
+      pub timeout-goes : (b : Struct) → b ≡ markIn a (a .crashed) (timersOf (cancelTimer t (listed (a .timers .0)))) → (not (d .touched) && onlySets t (toldBy d)) ≡ false
+          → (y : Touched) → y ≡ touchedOf n b (finishPart base i (partView rs n b) (didView d)) → backTo n a y ≡ touchedOf n a (timeoutPart base i t (partView rs n a))
+      unfolding actorIn withTimers answerOf
+      timeout-goes b f e y g =
+          let z = timeout-told k in
+          let v = listed-timers-of (cancelTimer t (listed (a .timers .0))) (cancel-timers t _ (listed-timers (a .timers .0))) in
+          let w : partView rs n (markIn a (a .crashed) (timersOf (cancelTimer t (listed (a .timers .0))))) ≡ actorIn (withTimers (cancelTimer t (listed (a .timers .0))) (actorView rs a)) (partView rs n a) =
+          λ j. record { net = netView n; actor = record { rules = rs; crashed = a .crashed; timers = v j; link = linkView (a .link); storage = storedView (a .stored) } } in
+          ap (backTo n a) (g ∙ ap (λ (x : Struct). touchedOf n x (finishPart base i (partView rs n x) (didView d))) f)
+          ∙ back-touched n n a _ _ (on-finish refusal refl refl refl base i _ _)
+          ∙ ap (touchedOf n a) (ap (λ (p : Part). finishPart base i p (didView d)) w ∙ finish-same base i _ d (z .did) (z .link) (z .commands))
+          ∙ sym (ap (touchedOf n a) (here ∙ timed-goes i t (partView rs n a) (z .did) (sym renewed ∙ e)))

@@ -3,19 +3,19 @@ use actor::Actor;
 use actor::is_done;
 use durable::Stored;
 use inner::Table;
-use output::Commands;
 use link::Did;
 use link::Link;
-use output::LinkCommand;
 use network::Network;
 use network::Sent;
+use output::Commands;
+use output::LinkCommand;
 use timers::Timers;
 use types::Answer;
 use types::Envelope;
 use types::Id;
 use types::Message;
 ghost use mathlib.Core.Path.{_≡_};
-ghost use mathlib.Core.Bool.{true};
+ghost use mathlib.Core.Bool.{true, not, _&&_};
 ghost use mathlib.Core.List.{List, _∷_, [], map};
 ghost use Prim.Native.Nat.{_≤_, _<_};
 ghost use lib.ListN.{length, take};
@@ -25,13 +25,15 @@ ghost use Rattle.rules.specs.Outcome.{base};
 ghost use Rattle.types.specs.declared.Answer.the-variants.{Done};
 ghost use Rattle.rules.specs.Timers.{setTimer, cancelTimer};
 ghost use Rattle.rules.specs.Network.{send};
+ghost use Rattle.rules.specs.Link.{Durable};
+ghost use Rattle.rules.specs.System.{onlySets};
 ghost use Rattle.timers.specs.Views.{listed, timersOf};
 ghost use Rattle.network.specs.Views.{netView, NetReady, sentOf};
 ghost use Rattle.inner.specs.Views.{rulesOf, tableOk};
 ghost use Rattle.durable.specs.Views.{durableView, durableLaid, storedLaid};
-ghost use Rattle.link.specs.Views.{linkView, linkAs};
+ghost use Rattle.link.specs.Views.{linkView, linkAs, toldBy};
 ghost use Rattle.output.specs.Views.{commandView, commandsIn};
-ghost use Rattle.parts.specs.Parts.{runPart, finishPart, wakePart, deliverPart, crashPart, recoverPart};
+ghost use Rattle.parts.specs.Parts.{runPart, finishPart, wakePart, deliverPart, timeoutPart, crashPart, recoverPart};
 ghost use Rattle.actor.specs.Views.{actorAs, ActorLaid};
 ghost use Rattle.steps.specs.Views.{partView, didView, touchedOf, backTo};
 
@@ -298,5 +300,62 @@ pub fn recover(i: Id, n: Network, a: Actor, t: Table) -> Touched
     let ts = a.timers;
     let b = mark(a, false, ts);
     let x = wake(i, n, b, t);
+    back(x, n, a)
+}
+
+// A lone command that sets this timer.
+fn sets(c: LinkCommand, t: u8) -> bool
+    ensures { λ r. ⌜ ((d : Durable) → r ≡ onlySets t (commandView d c ∷ [])) ⌝ }
+{
+    match c {
+        LinkCommand::Set(u) => t == u,
+        LinkCommand::Cancel(_) => false,
+        LinkCommand::Send(_, _) => false,
+        LinkCommand::Save => false,
+    }
+}
+
+fn only_sets(cs: Commands, t: u8) -> bool
+    ensures { λ r. ⌜ ((d : Durable) → r ≡ onlySets t (map (commandView d) (commandsIn cs))) ⌝ }
+{
+    if cs.used != 1 {
+        return false;
+    }
+    let list = cs.list;
+    let s = list[0];
+    let c = s.command;
+    sets(c, t)
+}
+
+// Untouched, and its only command sets the same timer.
+fn renews(d: Did, t: u8) -> bool
+    ensures { λ r. ⌜ r ≡ (not (d .touched) && onlySets t (toldBy d)) ⌝ }
+{
+    if d.touched {
+        return false;
+    }
+    let cs = d.commands;
+    only_sets(cs, t)
+}
+
+// A timer that is set runs out. It is cancelled first, then the commands run.
+pub fn timeout(i: Id, timer: u8, n: Network, a: Actor, t: Table) -> Touched
+    requires { ⌜ NetReady n × ActorLaid a × (tableOk t ≡ true) × (durableLaid (a .link .durable) ≡ true) ⌝ }
+    ensures { λ x. ⌜ x ≡ touchedOf n a (timeoutPart base i timer (partView (rulesOf t) n a)) ⌝ }
+{
+    if !a.timers.is_set(timer) {
+        return refused(Answer::NotSet, n, a);
+    }
+    let l = a.link;
+    let d = link::on_timeout(t, l, timer);
+    let told = d.answer;
+    if !is_done(told) {
+        return refused(told, n, a);
+    }
+    if renews(d, timer) {
+        return refused(Answer::Ignored, n, a);
+    }
+    let b = cancel_timer(a, timer);
+    let x = finish(i, n, b, d);
     back(x, n, a)
 }

@@ -40,13 +40,12 @@ returns-2 c =
 finish-requires : tie.Need-finish-requires
 finish-requires c κs =
     let s = c .before .before .before .before .before .before .before .before .before .before in
-    let rs = rulesOf (s .args .t) in
-    (
+    let rs = rulesOf (s .args .t) in (
       deliver-ready-after rs (s .args .n) (s .args .a) (s .args .e) (c .before .before .before .before .before .before .before .before .before .on-deliver .result) (c .before .before .before .before .before .before .before .before .before .on-deliver .ensures) (c .before .before .before .on-msg .result) (c .before .before .before .on-msg .ensures (s .args .e .dst))
-      (sym (c .before .before .before .before .before .before .before .before .is-done .ensures) ∙ not-false _ (c .before .before .before .before .before .before .before .if1 .left)) (s .pre .0),
+          (sym (c .before .before .before .before .before .before .before .before .is-done .ensures) ∙ not-false _ (c .before .before .before .before .before .before .before .if1 .left)) (s .pre .0),
       s .pre .1,
       deliver-told rs (s .args .n) (s .args .a) (s .args .e) (c .before .before .before .before .before .before .before .before .before .on-deliver .result) (c .before .before .before .before .before .before .before .before .before .on-deliver .ensures) (c .before .before .before .on-msg .result) (c .before .before .before .on-msg .ensures (s .args .e .dst))
-      (sym (c .before .before .before .before .before .before .before .before .is-done .ensures) ∙ not-false _ (c .before .before .before .before .before .before .before .if1 .left)) (sym (c .before .before .is-done2 .ensures) ∙ not-false _ (c .before .if2 .left)) .laid,
+          (sym (c .before .before .before .before .before .before .before .before .is-done .ensures) ∙ not-false _ (c .before .before .before .before .before .before .before .if1 .left)) (sym (c .before .before .is-done2 .ensures) ∙ not-false _ (c .before .if2 .left)) .laid,
     )
 
 back-requires : tie.Need-back-requires

@@ -22,8 +22,7 @@ mark-requires c κs = search needs
 
 wake-requires : tie.Need-wake-requires
 wake-requires c κs =
-    let s = c .before .before .before .before in
-    (
+    let s = c .before .before .before .before in (
       s .pre .0,
       marked (s .args .a) false _ (s .pre .1) (c .mark .ensures),
       s .pre .2,

@@ -67,13 +67,12 @@ loop-again : tie.Need-loop-again Inv-loop μ-loop
 loop-again c =
     let s = c .before .before .before .before .before .before .before .before .before .before in
     let l = c .before .before .before .before .before .before .before .loop in
-    let k : c .before .before .before .before .before .before .before .before .in-use .result ≤ length (s .args .cs .list) = omega (arith, l .inv .1, l .inv .2) in
-    (
+    let k : c .before .before .before .before .before .before .before .before .in-use .result ≤ length (s .args .cs .list) = omega (arith, l .inv .1, l .inv .2) in (
       search needs,
       l .inv .1,
       l .inv .2,
       rw (add-one) (turn-on (s .args .i) (s .args .n) (s .args .a) _ _ (l .j) (l .net) (l .act) (l .inv .3) (c .before .before .before .before .before .before .loop-test .taken) k zero (c .before .before .before .before .run-command .result)
-      (c .before .before .before .before .run-command .ensures) (sym (c .before .before .before .is-done .ensures) ∙ not-false _ (c .before .before .if1 .left))),
+          (c .before .before .before .before .run-command .ensures) (sym (c .before .before .before .is-done .ensures) ∙ not-false _ (c .before .before .if1 .left))),
     )
 
 returns-2 : tie.Need-returns-2 Inv-loop μ-loop
