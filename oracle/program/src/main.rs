@@ -1,1 +1,80 @@
-fn main(){}
+//! The oracle: runs action scripts through the Rust, makes scripts, and compares a replay program with it.
+mod drive;
+mod report;
+mod script;
+mod sheet;
+mod table;
+mod text;
+mod view;
+
+use report::{report, Options};
+use std::io::{Read, Write};
+use std::process::ExitCode;
+
+const USAGE: &str = "oracle [run] [--marks] [--states] [FILE]   the output for a script
+oracle text [FILE]                  a script in words
+oracle bytes [FILE]                 a script from words
+oracle sheet FILE...                checks written sheets";
+
+/// The file that is named, or standard input.
+fn input(name: Option<&String>) -> Result<Vec<u8>, String> {
+    let mut bytes = Vec::new();
+    match name {
+        Some(name) => std::fs::read(name).map_err(|told| format!("{name}: {told}")),
+        None => std::io::stdin().read_to_end(&mut bytes).map(|_| bytes).map_err(|told| told.to_string()),
+    }
+}
+
+fn output(bytes: &[u8]) -> Result<(), String> {
+    std::io::stdout().write_all(bytes).map_err(|told| told.to_string())
+}
+
+fn run(args: &[String]) -> Result<(), String> {
+    let has = |flag: &str| args.iter().any(|arg| arg == flag);
+    let options = Options { marks: has("--marks"), states: has("--states") };
+    let file = args.iter().find(|arg| !arg.starts_with("--"));
+    output(report(&input(file)?, options).as_bytes())
+}
+
+fn to_text(args: &[String]) -> Result<(), String> {
+    let script = script::read(&input(args.first())?).map_err(|place| format!("bad {place}"))?;
+    output(text::text(&script).as_bytes())
+}
+
+fn to_bytes(args: &[String]) -> Result<(), String> {
+    let words = String::from_utf8(input(args.first())?).map_err(|told| told.to_string())?;
+    output(&script::write(&text::parse(&words)?))
+}
+
+fn sheets(files: &[String]) -> Result<(), String> {
+    for file in files {
+        let words = String::from_utf8(input(Some(file))?).map_err(|told| told.to_string())?;
+        let lines = sheet::check(&words).map_err(|told| format!("{file}: {told}"))?;
+        println!("{file}: {lines} lines as expected");
+    }
+    Ok(())
+}
+
+fn perform(args: &[String]) -> Result<(), String> {
+    let rest = args.get(1..).unwrap_or(&[]);
+    match args.first().map(String::as_str) {
+        None => run(&[]),
+        Some("run") => run(rest),
+        Some("text") => to_text(rest),
+        Some("bytes") => to_bytes(rest),
+        Some("sheet") => sheets(rest),
+        _ => Err(USAGE.to_string()),
+    }
+}
+
+fn main() -> ExitCode {
+    drive::quiet();
+    let args: Vec<String> = std::env::args().skip(1).collect();
+    match perform(&args) {
+        Ok(()) => ExitCode::SUCCESS,
+        Err(told) => {
+            eprintln!("{told}");
+            ExitCode::FAILURE
+        }
+    }
+}
