@@ -1,9 +1,13 @@
 //! The oracle: runs action scripts through the Rust, makes scripts, and compares a replay program with it.
+mod compare;
 mod drive;
+mod generate;
+mod random;
 mod report;
 mod script;
 mod sheet;
 mod table;
+mod tables;
 mod text;
 mod view;
 
@@ -14,7 +18,11 @@ use std::process::ExitCode;
 const USAGE: &str = "oracle [run] [--marks] [--states] [FILE]   the output for a script
 oracle text [FILE]                  a script in words
 oracle bytes [FILE]                 a script from words
-oracle sheet FILE...                checks written sheets";
+oracle sheet FILE...                checks written sheets
+oracle make SEED                    the script of a seed
+oracle count FIRST COUNT            which answers the scripts of these seeds reach
+oracle compare PROGRAM FIRST COUNT  runs a replay program beside the oracle on these seeds
+oracle shrink PROGRAM SEED          a smaller script on which they differ";
 
 /// The file that is named, or standard input.
 fn input(name: Option<&String>) -> Result<Vec<u8>, String> {
@@ -55,6 +63,15 @@ fn sheets(files: &[String]) -> Result<(), String> {
     Ok(())
 }
 
+fn number(args: &[String], place: usize) -> Result<u64, String> {
+    let word = args.get(place).ok_or(USAGE)?;
+    word.parse().map_err(|_| format!("no number: {word}"))
+}
+
+fn program(args: &[String]) -> Result<&str, String> {
+    Ok(args.first().ok_or(USAGE)?)
+}
+
 fn perform(args: &[String]) -> Result<(), String> {
     let rest = args.get(1..).unwrap_or(&[]);
     match args.first().map(String::as_str) {
@@ -63,6 +80,10 @@ fn perform(args: &[String]) -> Result<(), String> {
         Some("text") => to_text(rest),
         Some("bytes") => to_bytes(rest),
         Some("sheet") => sheets(rest),
+        Some("make") => output(&generate::generate(number(rest, 0)?)),
+        Some("count") => Ok(compare::count(number(rest, 0)?, number(rest, 1)?)),
+        Some("compare") => compare::compare(program(rest)?, number(rest, 1)?, number(rest, 2)?),
+        Some("shrink") => compare::shrink(program(rest)?, number(rest, 1)?),
         _ => Err(USAGE.to_string()),
     }
 }

@@ -1,0 +1,142 @@
+//! Runs a replay program beside the oracle on scripts made from seeds, and tells where they differ; makes a script
+//! smaller while they still differ; counts which answers the scripts reach.
+use crate::generate::{generate, profile};
+use crate::report::{report, Options};
+use crate::script::{read, write, Script};
+use crate::text::text;
+use std::collections::BTreeMap;
+use std::io::Write;
+use std::process::{Command, Stdio};
+
+/// What the program writes when the script is its standard input.
+fn replayed(program: &str, bytes: &[u8]) -> Result<String, String> {
+    let mut child = Command::new(program)
+        .stdin(Stdio::piped())
+        .stdout(Stdio::piped())
+        .spawn()
+        .map_err(|told| format!("{program}: {told}"))?;
+    let mut stdin = child.stdin.take().expect("a pipe");
+    let script = bytes.to_vec();
+    // In a thread of its own, so that a program that writes before it has read all cannot block.
+    let writer = std::thread::spawn(move || stdin.write_all(&script));
+    let result = child.wait_with_output().map_err(|told| told.to_string())?;
+    let written = writer.join().expect("the writer ends");
+    if !result.status.success() {
+        return Ok(format!("ended with {}", result.status));
+    }
+    written.map_err(|told| format!("the program did not read its script: {told}"))?;
+    Ok(String::from_utf8_lossy(&result.stdout).into_owned())
+}
+
+/// The first line in which two outputs differ.
+fn difference(ours: &str, theirs: &str) -> String {
+    let (mut x, mut y) = (ours.lines(), theirs.lines());
+    let mut line = 1;
+    loop {
+        match (x.next(), y.next()) {
+            (None, None) => return "they differ in line ends only".to_string(),
+            (a, b) if a == b => line += 1,
+            (a, b) => return format!("line {line}: oracle `{}`, program `{}`", a.unwrap_or("nothing"), b.unwrap_or("nothing")),
+        }
+    }
+}
+
+pub fn compare(program: &str, first: u64, count: u64) -> Result<(), String> {
+    let mut differ = 0;
+    for seed in first..first + count {
+        let bytes = generate(seed);
+        let ours = report(&bytes, Options::default());
+        let theirs = replayed(program, &bytes)?;
+        if ours != theirs {
+            differ += 1;
+            println!("seed {seed} ({:?}): {}", profile(seed), difference(&ours, &theirs));
+        }
+    }
+    println!("{count} scripts, {differ} differ");
+    if differ == 0 { Ok(()) } else { Err("the outputs differ".to_string()) }
+}
+
+/// Every script that is the given one with a piece left out.
+fn smaller(script: &Script) -> Vec<Script> {
+    let mut list = Vec::new();
+    let length = script.actions.len();
+    let mut piece = length;
+    while piece > 0 {
+        for start in (0..length).step_by(piece) {
+            let mut less = script.clone();
+            less.actions.drain(start..(start + piece).min(length));
+            list.push(less);
+        }
+        piece /= 2;
+    }
+    for place in 0..script.envelopes.len() {
+        let mut less = script.clone();
+        less.envelopes.remove(place);
+        list.push(less);
+    }
+    if script.tables.len() > 1 {
+        let mut less = script.clone();
+        less.tables.pop();
+        list.push(less);
+    }
+    list.extend(smaller_tables(script));
+    list
+}
+
+fn smaller_tables(script: &Script) -> Vec<Script> {
+    let mut list = Vec::new();
+    for (actor, table) in script.tables.iter().enumerate() {
+        for (place, rule) in table.iter().enumerate() {
+            let mut less = script.clone();
+            less.tables[actor].remove(place);
+            list.push(less);
+            for command in 0..rule.commands.len() {
+                let mut less = script.clone();
+                less.tables[actor][place].commands.remove(command);
+                list.push(less);
+            }
+        }
+    }
+    list
+}
+
+/// The script of a seed, made smaller as long as the two outputs differ. It must be readable to the oracle.
+pub fn shrink(program: &str, seed: u64) -> Result<(), String> {
+    let differs = |bytes: &[u8]| -> Result<bool, String> { Ok(report(bytes, Options::default()) != replayed(program, bytes)?) };
+    let bytes = generate(seed);
+    if !differs(&bytes)? {
+        return Err("the outputs do not differ".to_string());
+    }
+    let mut script = read(&bytes).map_err(|place| format!("bad {place}: a damaged script is not made smaller"))?;
+    'again: loop {
+        for less in smaller(&script) {
+            if differs(&write(&less))? {
+                script = less;
+                continue 'again;
+            }
+        }
+        break;
+    }
+    let bytes = write(&script);
+    print!("{}", text(&script));
+    println!("# {}", difference(&report(&bytes, Options::default()), &replayed(program, &bytes)?));
+    Ok(())
+}
+
+/// How often each answer is given, by profile.
+pub fn count(first: u64, count: u64) {
+    let mut counts: BTreeMap<(String, String), usize> = BTreeMap::new();
+    for seed in first..first + count {
+        for line in report(&generate(seed), Options { marks: true, states: false }).lines() {
+            let words: Vec<&str> = line.split(' ').collect();
+            let sort = match words[0] {
+                "done" => continue,
+                "bad" => "bad".to_string(),
+                "start" => format!("start {} {}", words[1], words[3]),
+                _ => format!("step {} {}", words[0], words[2]),
+            };
+            *counts.entry((format!("{:?}", profile(seed)), sort)).or_insert(0) += 1;
+        }
+    }
+    counts.iter().for_each(|((profile, sort), times)| println!("{profile:8} {sort:14} {times}"));
+}
