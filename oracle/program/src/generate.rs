@@ -3,8 +3,9 @@
 use crate::drive::{start, Run};
 use crate::random::Random;
 use crate::script::{envelope, number_of, size, write, Action, Env, Message, Script, LONGEST};
-use crate::tables::{destination, payload, pump, spoil, table, Taste};
+use crate::tables::{destination, payload, pump, spoil, stateful, table, Taste};
 use crate::view::{entries, live, timers, NETWORK};
+use stateright::actor::Network;
 
 #[derive(Clone, Copy, Debug, PartialEq)]
 pub enum Profile {
@@ -50,7 +51,7 @@ struct Weights {
 fn weights(profile: Profile) -> Weights {
     let mixed = Weights { deliver: 45, near: 6, drop: 8, timeout: 22, crash: 5, recover: 8, wrong: 6 };
     match profile {
-        Profile::Links => Weights { deliver: 55, near: 8, drop: 4, timeout: 14, crash: 8, recover: 10, wrong: 1 },
+        Profile::Links => Weights { deliver: 52, near: 22, drop: 3, timeout: 14, crash: 2, recover: 6, wrong: 1 },
         Profile::Pending => Weights { deliver: 30, near: 1, drop: 22, timeout: 40, crash: 2, recover: 4, wrong: 1 },
         Profile::Crowd => Weights { deliver: 40, near: 2, drop: 6, timeout: 45, crash: 2, recover: 4, wrong: 1 },
         _ => mixed,
@@ -68,7 +69,11 @@ fn some_number(random: &mut Random) -> u64 {
 
 fn some_message(random: &mut Random) -> Message {
     let number = some_number(random);
-    if random.chance(75) { Message::Deliver(number, payload(random)) } else { Message::Ack(number) }
+    if random.chance(75) {
+        Message::Deliver(number, payload(random))
+    } else {
+        Message::Ack(number)
+    }
 }
 
 fn some_envelope(random: &mut Random, actors: usize) -> Env {
@@ -122,6 +127,13 @@ fn some(random: &mut Random, run: &Run) -> Env {
     present(random, run).unwrap_or_else(|| some_envelope(random, run.actors()))
 }
 
+/// The next number that an actor has not taken from a source. If the message is ignored, the number comes again.
+fn fresh(random: &mut Random, run: &Run) -> Env {
+    let (src, dst) = (random.below(run.actors()), random.below(run.actors()));
+    let taken = live(&run.system, dst).taken.iter().find(|(source, _)| *source == src as u64).map_or(0, |(_, number)| *number);
+    envelope(src as u8, dst as u8, Message::Deliver(taken.saturating_add(1), random.below(8) as u32))
+}
+
 /// A Deliver of what is there. If nothing is, mostly a timeout, which may send something.
 fn deliver(random: &mut Random, run: &Run) -> Action {
     match present(random, run) {
@@ -140,7 +152,8 @@ fn timeout(random: &mut Random, run: &Run) -> Action {
         let chosen = timers(&run.system, id).into_iter().filter(|timer| *timer != NETWORK || pending || idle);
         set.extend(chosen.map(|timer| (id as u8, timer)));
     }
-    let (id, timer) = if set.is_empty() { (random.below(run.actors()) as u8, random.below(32) as u8) } else { random.one_of(&set) };
+    let (id, timer) =
+        if set.is_empty() { (random.below(run.actors()) as u8, random.below(32) as u8) } else { random.one_of(&set) };
     // Resending fills the network, so user timers have a second chance.
     let (id, timer) = if timer == NETWORK && !set.is_empty() { random.one_of(&set) } else { (id, timer) };
     Action::Timeout(id, timer)
@@ -165,10 +178,14 @@ fn action(random: &mut Random, run: &Run, weights: &Weights) -> Action {
     }
     match sort {
         0 => deliver(random, run),
+        // On kind 1 a Deliver need not name what is there.
+        1 if matches!(run.system.network, Network::UnorderedDuplicating(_, _)) && random.chance(75) => {
+            Action::Deliver(fresh(random, run))
+        }
         1 => {
             let env = some(random, run);
             let other = near(random, &env);
-            if random.chance(80) { Action::Deliver(other) } else { Action::Drop(other) }
+            random.one_of(&[Action::Deliver(other.clone()), Action::Deliver(other.clone()), Action::Drop(other)])
         }
         2 => Action::Drop(some(random, run)),
         3 => timeout(random, run),
@@ -190,21 +207,31 @@ fn opening(random: &mut Random, profile: Profile) -> Script {
     let (most, taste, envelopes) = match profile {
         Profile::Pending => (3, Taste { sends: 75, commands: 3 }, random.between(0, 6)),
         Profile::Crowd => (4, Taste { sends: 60, commands: 1 }, random.one_of(&[100, 110, 120, 126, 127, 128])),
-        Profile::Links => (4, Taste { sends: 40, commands: 0 }, random.between(2, 20)),
+        Profile::Links => (3, Taste { sends: 40, commands: 0 }, random.between(5, 60)),
         _ => (8, Taste { sends: 40, commands: 0 }, random.between(0, 8)),
     };
     let actors = random.between(1, most);
     let kind = if profile == Profile::Links { random.between(1, 2) } else { random.below(3) } as u8;
-    let mut tables: Vec<_> = (0..actors).map(|_| table(random, actors, taste)).collect();
-    let pumps = if profile == Profile::Pending { 100 } else { 20 };
+    let statefuls = if profile == Profile::Links { 80 } else { 25 };
+    let one = |random: &mut Random| if random.chance(statefuls) { stateful(random) } else { table(random, actors, taste) };
+    let mut tables: Vec<_> = (0..actors).map(|_| one(random)).collect();
+    let pumps = match profile {
+        Profile::Pending => 100,
+        Profile::Links => 5,
+        _ => 20,
+    };
     for rules in &mut tables {
         if random.chance(pumps) {
             pump(random, actors, rules);
         }
     }
-    // Half of the crowds have few equal envelopes, so that they are entries of their own on all kinds.
-    let apart = profile == Profile::Crowd && random.chance(50);
-    let envelopes = (0..envelopes).map(|place| start_envelope(random, actors, if apart { place as u64 } else { 0 })).collect();
+    // How far apart the numbers are: equal envelopes are common, or rare, so that each is an entry of its own.
+    let apart = match profile {
+        Profile::Crowd if random.chance(50) => 1,
+        Profile::Links => random.between(2, 10),
+        _ => 1000,
+    };
+    let envelopes = (0..envelopes).map(|place| start_envelope(random, actors, (place / apart) as u64)).collect();
     Script { kind, tables, envelopes, actions: Vec::new() }
 }
 
@@ -235,7 +262,7 @@ fn script(random: &mut Random, profile: Profile) -> Script {
         return script;
     }
     let weights = weights(profile);
-    let most = random.one_of(&[5, 40, 150, 400]);
+    let most = if profile == Profile::Links { 600 } else { random.one_of(&[5, 40, 150, 400]) };
     for _ in 0..random.between(0, most) {
         let next = action(random, &run, &weights);
         run.step(&next);

@@ -15,13 +15,15 @@ use report::{report, Options};
 use std::io::{Read, Write};
 use std::process::ExitCode;
 
-const USAGE: &str = "oracle [run] [--marks] [--states] [FILE]   the output for a script
+const USAGE: &str = "oracle run [--marks] [--states] [FILE]
+                                    the output for a script; `oracle` alone reads standard input
 oracle text [FILE]                  a script in words
 oracle bytes [FILE]                 a script from words
 oracle sheet FILE...                checks written sheets
 oracle make SEED                    the script of a seed
 oracle count FIRST COUNT            which answers the scripts of these seeds reach
-oracle compare PROGRAM FIRST COUNT  runs a replay program beside the oracle on these seeds
+oracle compare [--states] PROGRAM FIRST COUNT
+                                    runs a replay program beside the oracle on the scripts of these seeds
 oracle shrink PROGRAM SEED          a smaller script on which they differ";
 
 /// The file that is named, or standard input.
@@ -72,6 +74,12 @@ fn program(args: &[String]) -> Result<&str, String> {
     Ok(args.first().ok_or(USAGE)?)
 }
 
+fn compare(args: &[String]) -> Result<(), String> {
+    let states = args.first().is_some_and(|arg| arg == "--states");
+    let rest = &args[states as usize..];
+    compare::compare(program(rest)?, number(rest, 1)?, number(rest, 2)?, Options { marks: false, states })
+}
+
 fn perform(args: &[String]) -> Result<(), String> {
     let rest = args.get(1..).unwrap_or(&[]);
     match args.first().map(String::as_str) {
@@ -81,8 +89,8 @@ fn perform(args: &[String]) -> Result<(), String> {
         Some("bytes") => to_bytes(rest),
         Some("sheet") => sheets(rest),
         Some("make") => output(&generate::generate(number(rest, 0)?)),
-        Some("count") => Ok(compare::count(number(rest, 0)?, number(rest, 1)?)),
-        Some("compare") => compare::compare(program(rest)?, number(rest, 1)?, number(rest, 2)?),
+        Some("count") => compare::count(number(rest, 0)?, number(rest, 1)?),
+        Some("compare") => compare(rest),
         Some("shrink") => compare::shrink(program(rest)?, number(rest, 1)?),
         _ => Err(USAGE.to_string()),
     }

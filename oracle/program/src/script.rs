@@ -67,7 +67,11 @@ impl Reader<'_> {
     }
 
     fn holds(&self, fact: bool) -> Result<(), Bad> {
-        if fact { Ok(()) } else { Err(self.record) }
+        if fact {
+            Ok(())
+        } else {
+            Err(self.record)
+        }
     }
 
     /// Ends a record: zero bits up to the byte, and the next record begins.
@@ -180,7 +184,7 @@ struct Writer {
 impl Writer {
     fn field(&mut self, width: usize, value: u64) {
         for place in (0..width).rev() {
-            if self.bit % 8 == 0 {
+            if self.bit == 8 * self.bytes.len() {
                 self.bytes.push(0);
             }
             let last = self.bytes.len() - 1;

@@ -35,7 +35,11 @@ pub fn check(sheet: &str) -> Result<usize, String> {
             seen = fact(line, wanted, &groups[at.max(1) - 1].1, seen)?;
         }
     }
-    if at == groups.len() { Ok(at) } else { Err(format!("the output has {} lines, {at} were expected", groups.len())) }
+    if at == groups.len() {
+        Ok(at)
+    } else {
+        Err(format!("the output has {} lines, {at} were expected", groups.len()))
+    }
 }
 
 /// How many facts are passed after this one.

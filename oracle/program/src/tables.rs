@@ -19,12 +19,20 @@ pub fn payload(random: &mut Random) -> u32 {
 }
 
 fn user_timer(random: &mut Random) -> u8 {
-    if random.chance(85) { random.below(4) as u8 } else { random.below(31) as u8 }
+    if random.chance(85) {
+        random.below(4) as u8
+    } else {
+        random.below(31) as u8
+    }
 }
 
 /// Mostly an actor that is there.
 pub fn destination(random: &mut Random, actors: usize) -> u8 {
-    if random.chance(93) { random.below(actors) as u8 } else { random.one_of(&[actors as u8, 8, 255]) }
+    if random.chance(93) {
+        random.below(actors) as u8
+    } else {
+        random.one_of(&[actors as u8, 8, 255])
+    }
 }
 
 fn command(random: &mut Random, event: u8, actors: usize, taste: Taste) -> Command {
@@ -83,6 +91,32 @@ pub fn table(random: &mut Random, actors: usize, taste: Taste) -> Vec<Rule> {
         rules.push(rule(random, event, actors, taste));
     }
     rules.truncate(16);
+    rules
+}
+
+/// A table in which much hangs on the state and little is ignored for good: each of three states takes other payloads
+/// and answers in its own way, so that a wrong state or a wrong last taken number soon shows in what is sent.
+pub fn stateful(random: &mut Random) -> Vec<Rule> {
+    let blank = Rule { event: START, state: 0, low: 0, high: 0, touched: true, next: 0, commands: Vec::new() };
+    let mut rules = vec![Rule { next: random.below(3) as u8, commands: vec![Command::Set(0), Command::Set(1)], ..blank.clone() }];
+    rules.push(Rule { event: START_WITH, high: u32::MAX, ..rules[0].clone() });
+    for state in 0..3 {
+        let leave = (state + 1 + random.below(2) as u8) % 3;
+        let low = random.below(5) as u32;
+        let high = low + random.below(4) as u32;
+        let count = random.below(3);
+        let back = Command::Send { source: true, dst: 0, echo: true, payload: 0 };
+        let mut commands = vec![back; count];
+        if random.chance(30) {
+            commands.push(Command::Save { echo: true, value: 0 });
+        }
+        let touched = random.chance(80);
+        let next = if touched { leave } else { state };
+        rules.push(Rule { event: MESSAGE, state, low, high, touched, next, commands, ..blank.clone() });
+        let timer = random.below(2) as u8;
+        let commands = if random.chance(60) { vec![Command::Set(timer)] } else { Vec::new() };
+        rules.push(Rule { event: TIMEOUT, state, high: 31, next: leave, commands, ..blank.clone() });
+    }
     rules
 }
 

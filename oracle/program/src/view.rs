@@ -35,7 +35,7 @@ fn first(text: &str) -> u64 {
 }
 
 /// The numbers between the braces of a map.
-fn map<'a>(text: &'a str, name: &str) -> Vec<u64> {
+fn map(text: &str, name: &str) -> Vec<u64> {
     let rest = behind(text, name);
     numbers(&rest[..rest.find('}').expect("the map ends")])
 }
@@ -84,7 +84,11 @@ fn timer_number(timer: &TimerWrapper<u8>) -> u8 {
 }
 
 pub fn timer(number: u8) -> TimerWrapper<u8> {
-    if number == NETWORK { TimerWrapper::Network } else { TimerWrapper::User(number) }
+    if number == NETWORK {
+        TimerWrapper::Network
+    } else {
+        TimerWrapper::User(number)
+    }
 }
 
 /// Entries with their counts: flow by flow on kind 0, in envelope order on kinds 1 and 2.
