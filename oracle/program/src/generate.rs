@@ -127,11 +127,12 @@ fn some(random: &mut Random, run: &Run) -> Env {
     present(random, run).unwrap_or_else(|| some_envelope(random, run.actors()))
 }
 
-/// The next number that an actor has not taken from a source. If the message is ignored, the number comes again.
+/// The last number that an actor took from a source, or the next one or two. If it is ignored, it comes again.
 fn fresh(random: &mut Random, run: &Run) -> Env {
     let (src, dst) = (random.below(run.actors()), random.below(run.actors()));
     let taken = live(&run.system, dst).taken.iter().find(|(source, _)| *source == src as u64).map_or(0, |(_, number)| *number);
-    envelope(src as u8, dst as u8, Message::Deliver(taken.saturating_add(1), random.below(8) as u32))
+    let number = taken.saturating_add(random.one_of(&[0, 1, 1, 1, 2]));
+    envelope(src as u8, dst as u8, Message::Deliver(number, random.below(8) as u32))
 }
 
 /// A Deliver of what is there. If nothing is, mostly a timeout, which may send something.

@@ -112,6 +112,11 @@ pub fn stateful(random: &mut Random) -> Vec<Rule> {
         }
         let touched = random.chance(80);
         let next = if touched { leave } else { state };
+        // A message that is taken although it changes nothing and gives no command.
+        let quiet = random.below(8) as u32;
+        if random.chance(60) {
+            rules.push(Rule { event: MESSAGE, state, low: quiet, high: quiet, next: state, ..blank.clone() });
+        }
         rules.push(Rule { event: MESSAGE, state, low, high, touched, next, commands, ..blank.clone() });
         let timer = random.below(2) as u8;
         let commands = if random.chance(60) { vec![Command::Set(timer)] } else { Vec::new() };
