@@ -60,69 +60,87 @@ pub fn compare(program: &str, first: u64, count: u64, options: Options) -> Resul
     }
 }
 
-/// Every script that is the given one with a piece left out.
+/// Every script that is the given one without an envelope, the last actor, a rule or a command.
 fn smaller(script: &Script) -> Vec<Script> {
     let mut list = Vec::new();
-    let length = script.actions.len();
-    let mut piece = length;
-    while piece > 0 {
-        for start in (0..length).step_by(piece) {
-            let mut less = script.clone();
-            less.actions.drain(start..(start + piece).min(length));
-            list.push(less);
-        }
-        piece /= 2;
-    }
-    for place in 0..script.envelopes.len() {
+    let mut without = |change: &dyn Fn(&mut Script)| {
         let mut less = script.clone();
-        less.envelopes.remove(place);
+        change(&mut less);
         list.push(less);
+    };
+    for place in 0..script.envelopes.len() {
+        without(&|less| drop(less.envelopes.remove(place)));
     }
     if script.tables.len() > 1 {
-        let mut less = script.clone();
-        less.tables.pop();
-        list.push(less);
+        without(&|less| drop(less.tables.pop()));
     }
-    list.extend(smaller_tables(script));
-    list
-}
-
-fn smaller_tables(script: &Script) -> Vec<Script> {
-    let mut list = Vec::new();
     for (actor, table) in script.tables.iter().enumerate() {
         for (place, rule) in table.iter().enumerate() {
-            let mut less = script.clone();
-            less.tables[actor].remove(place);
-            list.push(less);
+            without(&|less| drop(less.tables[actor].remove(place)));
             for command in 0..rule.commands.len() {
-                let mut less = script.clone();
-                less.tables[actor][place].commands.remove(command);
-                list.push(less);
+                without(&|less| drop(less.tables[actor][place].commands.remove(command)));
             }
         }
     }
     list
+}
+
+struct Shrink<'a> {
+    program: &'a str,
+    script: Script,
+}
+
+impl Shrink<'_> {
+    /// Takes the other script if the outputs differ on it too.
+    fn takes(&mut self, other: Script) -> Result<bool, String> {
+        let bytes = write(&other);
+        let differs = report(&bytes, Options::default()) != replayed(self.program, &bytes)?;
+        if differs {
+            self.script = other;
+        }
+        Ok(differs)
+    }
+
+    /// Leaves out runs of actions, long ones first.
+    fn actions(&mut self) -> Result<(), String> {
+        let mut piece = self.script.actions.len();
+        while piece > 0 {
+            let mut start = 0;
+            while start < self.script.actions.len() {
+                let mut less = self.script.clone();
+                less.actions.drain(start..(start + piece).min(less.actions.len()));
+                if !self.takes(less)? {
+                    start += piece;
+                }
+            }
+            piece /= 2;
+        }
+        Ok(())
+    }
+
+    /// Leaves out one other thing, if that can be.
+    fn other(&mut self) -> Result<bool, String> {
+        for less in smaller(&self.script) {
+            if self.takes(less)? {
+                return Ok(true);
+            }
+        }
+        Ok(false)
+    }
 }
 
 /// The script of a seed, made smaller as long as the two outputs differ. It must be readable to the oracle.
 pub fn shrink(program: &str, seed: u64) -> Result<(), String> {
-    let differs = |bytes: &[u8]| -> Result<bool, String> { Ok(report(bytes, Options::default()) != replayed(program, bytes)?) };
-    let bytes = generate(seed);
-    if !differs(&bytes)? {
+    let script = read(&generate(seed)).map_err(|place| format!("bad {place}: a damaged script is not made smaller"))?;
+    let mut shrink = Shrink { program, script: script.clone() };
+    if !shrink.takes(script)? {
         return Err("the outputs do not differ".to_string());
     }
-    let mut script = read(&bytes).map_err(|place| format!("bad {place}: a damaged script is not made smaller"))?;
-    'again: loop {
-        for less in smaller(&script) {
-            if differs(&write(&less))? {
-                script = less;
-                continue 'again;
-            }
-        }
-        break;
-    }
-    let bytes = write(&script);
-    print!("{}", text(&script));
+    shrink.actions()?;
+    while shrink.other()? {}
+    shrink.actions()?;
+    let bytes = write(&shrink.script);
+    print!("{}", text(&shrink.script));
     println!("# {}", difference(&report(&bytes, Options::default()), &replayed(program, &bytes)?));
     Ok(())
 }
