@@ -9,6 +9,7 @@ trial=../target/oracle/trial
 mkdir -p $trial
 
 $oracle sheet sheet/*.txt
+$oracle faults | cmp - sheet/faults.out
 
 # The rules' specification writes row 12's script byte by byte.
 bytes=$(sed -n '/^script12 =/,/\[\]$/p' ../crates/rules/specs/Sheet.antt | grep -o '0x..' | sed 's/^0/\\/' | tr -d '\n')
@@ -27,5 +28,5 @@ for seed in $(seq 0 47); do
   fi
 done
 $oracle compare $oracle 0 48
-if $oracle compare cat 0 3 > $trial/cat; then echo "a difference was not told" >&2; exit 1; fi
+if $oracle compare cat 0 3 > $trial/cat 2>&1; then echo "a difference was not told" >&2; exit 1; fi
 echo "the oracle is as expected"

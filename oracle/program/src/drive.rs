@@ -44,7 +44,7 @@ pub fn quiet() {
     }));
 }
 
-fn caught<T>(call: impl FnOnce() -> T) -> Result<T, String> {
+pub fn caught<T>(call: impl FnOnce() -> T) -> Result<T, String> {
     CAUGHT.set(true);
     let result = catch_unwind(AssertUnwindSafe(call));
     CAUGHT.set(false);
@@ -80,6 +80,11 @@ fn network(script: &Script) -> Network<crate::script::Message> {
     }
 }
 
+pub fn model(script: &Script) -> ActorModel<Link> {
+    let links = script.tables.iter().map(|table| Link::with_default_timeout(Table(table.clone())));
+    ActorModel::new((), ()).actors(links).init_network(network(script))
+}
+
 fn known_start(script: &Script) -> bool {
     let actors = script.tables.len();
     script.tables.iter().all(|table| sound(table)) && script.envelopes.iter().all(|env| usize::from(env.src) < actors)
@@ -91,8 +96,7 @@ pub fn start(script: &Script) -> Result<Run, Answer> {
     if !known_start(script) {
         return Err(ours(10));
     }
-    let links = script.tables.iter().map(|table| Link::with_default_timeout(Table(table.clone())));
-    let model = ActorModel::new((), ()).actors(links).init_network(network(script));
+    let model = model(script);
     let system = model.init_states().pop().expect("one initial state");
     if too_full(&system) {
         return Err(ours(8));
@@ -170,7 +174,7 @@ impl Run {
 
 type RustAction = <ActorModel<Link> as Model>::Action;
 
-fn rust_action(action: &Action) -> RustAction {
+pub fn rust_action(action: &Action) -> RustAction {
     let id = |number: &u8| Id::from(*number as usize);
     match action {
         Action::Deliver(env) => ActorModelAction::Deliver { src: env.src, dst: env.dst, msg: env.msg.clone() },

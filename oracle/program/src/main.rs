@@ -1,6 +1,7 @@
 //! The oracle: runs action scripts through the Rust, makes scripts, and compares a replay program with it.
 mod compare;
 mod drive;
+mod faults;
 mod generate;
 mod random;
 mod report;
@@ -20,6 +21,7 @@ const USAGE: &str = "oracle run [--marks] [--states] [FILE]
 oracle text [FILE]                  a script in words
 oracle bytes [FILE]                 a script from words
 oracle sheet FILE...                checks written sheets
+oracle faults                       what the Rust does by itself where the port differs
 oracle make SEED                    the script of a seed
 oracle count FIRST COUNT            which answers the scripts of these seeds reach
 oracle compare [--states] PROGRAM FIRST COUNT
@@ -88,6 +90,7 @@ fn perform(args: &[String]) -> Result<(), String> {
         Some("text") => to_text(rest),
         Some("bytes") => to_bytes(rest),
         Some("sheet") => sheets(rest),
+        Some("faults") => output(faults::faults().as_bytes()),
         Some("make") => output(&generate::generate(number(rest, 0)?)),
         Some("count") => compare::count(number(rest, 0)?, number(rest, 1)?),
         Some("compare") => compare(rest),

@@ -62,22 +62,28 @@ impl<K: Hash + Eq, V: PartialEq, S: BuildHasher> PartialEq for HashableHashMap<K
 impl<K: Hash + Eq, V: Eq, S: BuildHasher> Eq for HashableHashMap<K, V, S> {}
 
 // The rest is asked for by derived traits of the supplied types; a replay neither hashes nor orders maps.
+impl<K: Hash, V: Hash, S> HashableHashMap<K, V, S> {
+    /// A number that does not hang on the order of the entries.
+    fn sum(&self) -> u64 {
+        self.0.iter().fold(0, |sum, entry| calculate_hash(&entry).wrapping_add(sum))
+    }
+}
+
 impl<K: Hash, V: Hash, S> Hash for HashableHashMap<K, V, S> {
     fn hash<H: Hasher>(&self, hasher: &mut H) {
-        let sum = self.0.iter().fold(0u64, |sum, entry| sum.wrapping_add(calculate_hash(&entry)));
-        hasher.write_u64(sum);
+        hasher.write_u64(self.sum());
     }
 }
 
 impl<K: Hash + Eq, V: Hash + PartialEq, S: BuildHasher> PartialOrd for HashableHashMap<K, V, S> {
     fn partial_cmp(&self, other: &Self) -> Option<Ordering> {
-        calculate_hash(self).partial_cmp(&calculate_hash(other))
+        Some(self.sum().cmp(&other.sum()))
     }
 }
 
 impl<K: Hash + Eq, V: Hash + Eq, S: BuildHasher> Ord for HashableHashMap<K, V, S> {
     fn cmp(&self, other: &Self) -> Ordering {
-        calculate_hash(self).cmp(&calculate_hash(other))
+        self.sum().cmp(&other.sum())
     }
 }
 
