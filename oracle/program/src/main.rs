@@ -1,0 +1,112 @@
+//! The oracle: runs action scripts through the Rust, makes scripts, and compares a replay program with it.
+mod compare;
+mod drive;
+mod faults;
+mod generate;
+mod random;
+mod report;
+mod script;
+mod sheet;
+mod table;
+mod tables;
+mod text;
+mod view;
+
+use report::{report, Options};
+use std::io::{Read, Write};
+use std::process::ExitCode;
+
+const USAGE: &str = "oracle run [--marks] [--states] [FILE]
+                                    the output for a script; `oracle` alone reads standard input
+oracle text [FILE]                  a script in words
+oracle bytes [FILE]                 a script from words
+oracle sheet FILE...                checks written sheets
+oracle faults                       what the Rust does by itself where the port differs
+oracle make SEED                    the script of a seed
+oracle count FIRST COUNT            which answers the scripts of these seeds reach
+oracle compare [--states] PROGRAM FIRST COUNT
+                                    runs a replay program beside the oracle on the scripts of these seeds
+oracle shrink PROGRAM SEED          a smaller script on which they differ";
+
+/// The file that is named, or standard input.
+fn input(name: Option<&String>) -> Result<Vec<u8>, String> {
+    let mut bytes = Vec::new();
+    match name {
+        Some(name) => std::fs::read(name).map_err(|told| format!("{name}: {told}")),
+        None => std::io::stdin().read_to_end(&mut bytes).map(|_| bytes).map_err(|told| told.to_string()),
+    }
+}
+
+fn output(bytes: &[u8]) -> Result<(), String> {
+    std::io::stdout().write_all(bytes).map_err(|told| told.to_string())
+}
+
+fn run(args: &[String]) -> Result<(), String> {
+    let has = |flag: &str| args.iter().any(|arg| arg == flag);
+    let options = Options { marks: has("--marks"), states: has("--states") };
+    let file = args.iter().find(|arg| !arg.starts_with("--"));
+    output(report(&input(file)?, options).as_bytes())
+}
+
+fn to_text(args: &[String]) -> Result<(), String> {
+    let script = script::read(&input(args.first())?).map_err(|place| format!("bad {place}"))?;
+    output(text::text(&script).as_bytes())
+}
+
+fn to_bytes(args: &[String]) -> Result<(), String> {
+    let words = String::from_utf8(input(args.first())?).map_err(|told| told.to_string())?;
+    output(&script::write(&text::parse(&words)?))
+}
+
+fn sheets(files: &[String]) -> Result<(), String> {
+    for file in files {
+        let words = String::from_utf8(input(Some(file))?).map_err(|told| told.to_string())?;
+        let lines = sheet::check(&words).map_err(|told| format!("{file}: {told}"))?;
+        println!("{file}: {lines} lines as expected");
+    }
+    Ok(())
+}
+
+fn number(args: &[String], place: usize) -> Result<u64, String> {
+    let word = args.get(place).ok_or(USAGE)?;
+    word.parse().map_err(|_| format!("no number: {word}"))
+}
+
+fn program(args: &[String]) -> Result<&str, String> {
+    Ok(args.first().ok_or(USAGE)?)
+}
+
+fn compare(args: &[String]) -> Result<(), String> {
+    let states = args.first().is_some_and(|arg| arg == "--states");
+    let rest = &args[states as usize..];
+    compare::compare(program(rest)?, number(rest, 1)?, number(rest, 2)?, Options { marks: false, states })
+}
+
+fn perform(args: &[String]) -> Result<(), String> {
+    let rest = args.get(1..).unwrap_or(&[]);
+    match args.first().map(String::as_str) {
+        None => run(&[]),
+        Some("run") => run(rest),
+        Some("text") => to_text(rest),
+        Some("bytes") => to_bytes(rest),
+        Some("sheet") => sheets(rest),
+        Some("faults") => output(faults::faults().as_bytes()),
+        Some("make") => output(&generate::generate(number(rest, 0)?)),
+        Some("count") => compare::count(number(rest, 0)?, number(rest, 1)?),
+        Some("compare") => compare(rest),
+        Some("shrink") => compare::shrink(program(rest)?, number(rest, 1)?),
+        _ => Err(USAGE.to_string()),
+    }
+}
+
+fn main() -> ExitCode {
+    drive::quiet();
+    let args: Vec<String> = std::env::args().skip(1).collect();
+    match perform(&args) {
+        Ok(()) => ExitCode::SUCCESS,
+        Err(told) => {
+            eprintln!("{told}");
+            ExitCode::FAILURE
+        }
+    }
+}

@@ -1,0 +1,58 @@
+//! The program's output for a script, as document 01 has it; with marks (who gave an answer) and the states if asked.
+use crate::drive::{start, Answer, By, Run};
+use crate::script::{read, Script};
+use crate::view::lines;
+
+#[derive(Clone, Copy, Default)]
+pub struct Options {
+    pub marks: bool,
+    pub states: bool,
+}
+
+struct Report {
+    options: Options,
+    text: String,
+    totals: [usize; 3],
+}
+
+impl Report {
+    fn answer(&mut self, lead: &str, answer: Answer, run: Option<&Run>) {
+        let len = run.map_or(0, |run| run.system.network.len());
+        self.text += &format!("{lead}{} {len}", answer.number);
+        if self.options.marks {
+            self.text += if answer.by == By::Rust { " rust" } else { " ours" };
+        }
+        self.text += "\n";
+        if self.options.states {
+            let facts = run.map_or(vec!["blank".to_string()], |run| lines(&run.system));
+            facts.iter().for_each(|fact| self.text += &format!("  {fact}\n"));
+        }
+    }
+
+    fn run(&mut self, script: &Script) {
+        match start(script) {
+            Err(answer) => self.answer("start ", answer, None),
+            Ok(mut run) => {
+                self.answer("start ", Answer { number: 0, by: By::Rust }, Some(&run));
+                for action in &script.actions {
+                    let answer = run.step(action);
+                    self.totals[answer.number.min(2) as usize] += 1;
+                    self.answer("", answer, Some(&run));
+                }
+            }
+        }
+        let [next, ignored, refused] = self.totals;
+        self.text += &format!("done {next} {ignored} {refused}\n");
+    }
+}
+
+pub fn report(bytes: &[u8], options: Options) -> String {
+    let mut report = Report { options, text: String::new(), totals: [0; 3] };
+    match read(bytes) {
+        Err(place) => format!("bad {place}\n"),
+        Ok(script) => {
+            report.run(&script);
+            report.text
+        }
+    }
+}

@@ -1,0 +1,1 @@
+//! Stand-in: actor.rs declares this module, and a replay needs nothing of it.

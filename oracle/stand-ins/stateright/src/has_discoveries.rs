@@ -1,0 +1,2 @@
+//! Stand-in: a name that lib.rs hands on.
+pub enum HasDiscoveries {}

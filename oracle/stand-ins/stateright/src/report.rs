@@ -1,0 +1,1 @@
+//! Stand-in: lib.rs declares this module, and a replay needs nothing of it.
