@@ -87,3 +87,8 @@ any-not-all {A} p (x ∷ l) = go (p x) (any-not-all p l)
     go : (b : Bool) → any p l ≡ not (all (λ (x : A). not (p x)) l) → (b || any p l) ≡ not (not b && all (λ (x : A). not (p x)) l)
     go true e = refl
     go false e = e
+
+-- There and back.
+pub map-back : {A B : Type 0} (f : A → B) (g : B → A) → ((x : A) → g (f x) ≡ x) → (l : List A) → map g (map f l) ≡ l
+map-back f g e [] = refl
+map-back {A} f g e (x ∷ l) = ap₂ (λ (y : A) (r : List A). y ∷ r) (e x) (map-back f g e l)
