@@ -10,7 +10,8 @@ use lib.Seq.{take-at, drop-at, length-take-le}
 use lib.Dec.{leb, eqb}
 use borrow.Author.Tests.{leb-true, le-leb, eqb-true}
 use Rattle.lists.specs.Lists.{all, chain, endsIn, every, lead, del, pad, shrink}
-use Rattle.lists.proofs.Members.{and-both, every-cons, every-make, every-nil}
+use Rattle.lists.proofs.Members.{every-cons, every-make, every-nil}
+use Rattle.lists.proofs.Walks.{all-same}
 use Rattle.lists.proofs.Places.{length-del, cut-found, cut-missing, laid-length, laid-get, laid-shrink, laid-append, laid-write, write-within, write-beyond}
 use Rattle.types.specs.declared.Id.{Id}
 use Rattle.types.specs.declared.Number.{Number}
@@ -31,11 +32,6 @@ pub record Laid {A : Type 0} (n : ℕ) (z : A) (es : List A) (used : ℕ) : Type
   pub rest : es ≡ pad n z (take used es)
 
 module _ {A : Type 0} (p : A → Bool) (z : A) where
-  all-same : ((x : A) → p x ≡ true → x ≡ z) → (l : List A) → all p l ≡ true → l ≡ replicate (length l) z
-  unfolding all
-  all-same only [] e = refl
-  all-same only (x ∷ l) e = let h = and-both (p x) _ e in λ i. only x (h .0) i ∷ all-same only l (h .1) i
-
   laid-is : ((x : A) → p x ≡ true → x ≡ z) → (n : ℕ) (es : List A) (used : ℕ) → length es ≡ n → every (leb used n ∷ all p (drop used es) ∷ []) ≡ true → Laid n z es used
   unfolding pad
   laid-is only n es used h e =
@@ -46,7 +42,7 @@ module _ {A : Type 0} (p : A → Bool) (z : A) where
       record {
         fit = k;
         rest = sym (take-append-drop used es)
-            ∙ ap (λ (l : List A). take used es ++ l) (all-same only (drop used es) (every-cons _ _ (a .1) .0) ∙ ap (λ (j : ℕ). replicate j z) m);
+            ∙ ap (λ (l : List A). take used es ++ l) (all-same p z only (drop used es) (every-cons _ _ (a .1) .0) ∙ ap (λ (j : ℕ). replicate j z) m);
       }
 
   all-fill : p z ≡ true → (k : ℕ) → all p (replicate k z) ≡ true
