@@ -10,7 +10,8 @@ use lib.Seq.{take-at, drop-at, length-take-le}
 use lib.Dec.{leb, eqb}
 use borrow.Author.Tests.{leb-true, le-leb, eqb-true}
 use Rattle.lists.specs.Lists.{all, chain, endsIn, every, lead, del, pad, shrink}
-use Rattle.lists.proofs.Members.{and-both, every-cons}
+use Rattle.lists.proofs.Members.{every-cons, every-make, every-nil}
+use Rattle.lists.proofs.Walks.{all-same}
 use Rattle.lists.proofs.Places.{length-del, cut-found, cut-missing, laid-length, laid-get, laid-shrink, laid-append, laid-write, write-within, write-beyond}
 use Rattle.types.specs.declared.Id.{Id}
 use Rattle.types.specs.declared.Number.{Number}
@@ -25,39 +26,42 @@ use Rattle.durable.specs.declared.Taken.{Taken}
 use Rattle.durable.specs.declared.Durable.{Durable}
 use Rattle.durable.specs.Views.{zeroPending, pendingList, pendingsOf, otherNumber, takenList, takenOf, durableView, durableAs, blankPending, blankNumber, pendingsLaid, takenLaid, durableLaid}
 
--- ---- places that are not used
-module _ {A : Type 0} (p : A → Bool) (z : A) (only : (x : A) → p x ≡ true → x ≡ z) where
-  all-same : (l : List A) → all p l ≡ true → l ≡ replicate (length l) z
-  unfolding all
-  all-same [] e = refl
-  all-same (x ∷ l) e = let h = and-both (p x) _ e in λ i. only x (h .0) i ∷ all-same l (h .1) i
+-- ---- an array of which the first places are used and the others hold z, as a test p finds it
+pub record Laid {A : Type 0} (n : ℕ) (z : A) (es : List A) (used : ℕ) : Type 0 where
+  pub fit : used ≤ n
+  pub rest : es ≡ pad n z (take used es)
 
-  pub rest-laid : (n : ℕ) (es : List A) (used : ℕ) → length es ≡ n → used ≤ n → all p (drop used es) ≡ true → es ≡ pad n z (take used es)
+module _ {A : Type 0} (p : A → Bool) (z : A) where
+  laid-is : ((x : A) → p x ≡ true → x ≡ z) → (n : ℕ) (es : List A) (used : ℕ) → length es ≡ n → every (leb used n ∷ all p (drop used es) ∷ []) ≡ true → Laid n z es used
   unfolding pad
-  rest-laid n es used h k e =
+  laid-is only n es used h e =
+      let a = every-cons _ _ e in
+      let k = leb-true used n (a .0) in
       let v = length-take-le used es (omega arith) in
       let m : length (drop used es) ≡ n - length (take used es) = omega (arith, length-drop used es) in
-      sym (take-append-drop used es) ∙ ap (λ (l : List A). take used es ++ l) (all-same (drop used es) e ∙ ap (λ (j : ℕ). replicate j z) m)
+      record {
+        fit = k;
+        rest = sym (take-append-drop used es)
+            ∙ ap (λ (l : List A). take used es ++ l) (all-same p z only (drop used es) (every-cons _ _ (a .1) .0) ∙ ap (λ (j : ℕ). replicate j z) m);
+      }
 
--- The other way: an array that holds a list is laid out.
-module _ {A : Type 0} (p : A → Bool) (z : A) (zero : p z ≡ true) where
-  all-fill : (k : ℕ) → all p (replicate k z) ≡ true
+  all-fill : p z ≡ true → (k : ℕ) → all p (replicate k z) ≡ true
   unfolding all
-  all-fill ℕ.zero = refl
-  all-fill (suc k) = rw zero (all-fill k)
+  all-fill zero ℕ.zero = refl
+  all-fill zero (suc k) = rw zero (all-fill zero k)
 
-  pub pad-rest : (n : ℕ) (l : List A) → all p (drop (length l) (pad n z l)) ≡ true
+  -- an array that holds a list
+  is-laid : p z ≡ true → (n : ℕ) (l : List A) → length l ≤ n → every (leb (length l) n ∷ all p (drop (length l) (pad n z l)) ∷ []) ≡ true
   unfolding pad
-  pad-rest n l = ap (all p) (drop-at l _ (length l) refl) ∙ all-fill (n - length l)
+  is-laid zero n l h = every-make _ _ (le-leb (length l) n h) (every-make _ _ (ap (all p) (drop-at l _ (length l) refl) ∙ all-fill zero (n - length l)) every-nil)
 
 pub pad-view : {A : Type 0} (n : ℕ) (z : A) (l : List A) → take (length l) (pad n z l) ≡ l
 unfolding pad
 pad-view n z l = take-at l _ (length l) refl
 
 -- ---- pending records
-pub record PendingLaid (p : Pendings) : Type 0 where
-  pub fit : p .used ≤ 32
-  pub rest : p .records ≡ pad 32 zeroPending (pendingList p)
+abbrev pub PendingLaid : Pendings → Type 0
+PendingLaid p = Laid 32 zeroPending (p .records) (p .used)
 
 blank-pending : (q : Pending) → blankPending q ≡ true → q ≡ zeroPending
 unfolding blankPending
@@ -68,13 +72,11 @@ blank-pending q e =
 
 pub pendings-are : (p : Pendings) → length (p .records) ≡ 32 → pendingsLaid p ≡ true → PendingLaid p
 unfolding pendingsLaid
-pendings-are p n e =
-    let a = every-cons _ _ e in let f = leb-true (p .used) 32 (a .0) in
-    record { fit = f; rest = rest-laid blankPending zeroPending blank-pending 32 (p .records) (p .used) n f (every-cons _ _ (a .1) .0) }
+pendings-are p n e = laid-is blankPending zeroPending blank-pending 32 (p .records) (p .used) n e
 
 pub pendings-of : (l : List Pending) → length l ≤ 32 → pendingsLaid (pendingsOf l) ≡ true
 unfolding pendingsLaid blankPending every
-pendings-of l h = rw (le-leb (length l) 32 h, pad-rest blankPending zeroPending refl 32 l)
+pendings-of l h = is-laid blankPending zeroPending refl 32 l h
 
 module _ (p : Pendings) (laid : PendingLaid p) where
   pub count : length (pendingList p) ≡ p .used
@@ -111,9 +113,8 @@ module _ (p : Pendings) (laid : PendingLaid p) where
       (omega (arith, length-append (pendingList p) (q ∷ [])))
 
 -- ---- numbers last taken
-pub record TakenLaid (t : Taken) : Type 0 where
-  pub fit : t .used ≤ 8
-  pub rest : t .last ≡ pad 8 untaken (takenList t)
+abbrev pub TakenLaid : Taken → Type 0
+TakenLaid t = Laid 8 untaken (t .last) (t .used)
 
 blank-number : (n : Number) → blankNumber n ≡ true → n ≡ untaken
 unfolding blankNumber
@@ -121,13 +122,11 @@ blank-number n e = let x = eqb-true (n .0) 0 e in λ i. record { 0 = x i }
 
 pub taken-are : (t : Taken) → length (t .last) ≡ 8 → takenLaid t ≡ true → TakenLaid t
 unfolding takenLaid
-taken-are t n e =
-    let a = every-cons _ _ e in let f = leb-true (t .used) 8 (a .0) in
-    record { fit = f; rest = rest-laid blankNumber untaken blank-number 8 (t .last) (t .used) n f (every-cons _ _ (a .1) .0) }
+taken-are t n e = laid-is blankNumber untaken blank-number 8 (t .last) (t .used) n e
 
 pub taken-of : (l : List Number) → length l ≤ 8 → takenLaid (takenOf l) ≡ true
-unfolding takenLaid blankNumber every
-taken-of l h = rw (le-leb (length l) 8 h, pad-rest blankNumber untaken refl 8 l)
+unfolding takenLaid blankNumber
+taken-of l h = is-laid blankNumber untaken refl 8 l h
 
 module _ (t : Taken) (laid : TakenLaid t) where
   held : length (takenList t) ≡ t .used

@@ -14,10 +14,10 @@ use borrow.Author.Tests.{leb-true}
 use Rattle.lists.specs.Lists.{choose, all, lead, pad}
 use Rattle.lists.proofs.Members.{and-both, every-cons, all-in, get-in}
 use Rattle.lists.proofs.Places.{append-pad}
+use Rattle.lists.proofs.Walks.{map-back}
 use Rattle.types.specs.declared.Id.{Id}
 use Rattle.types.specs.declared.Storage.{Storage}
 use Rattle.types.specs.declared.Storage.the-variants.{Nothing, Value}
-use Rattle.types.specs.declared.InnerCommand.{InnerCommand}
 use Rattle.types.specs.declared.InnerCommand.the-variants.{SetTimer}
 use Rattle.types.specs.declared.Slot.{Slot}
 use Rattle.types.specs.declared.Rule.{Rule}
@@ -150,14 +150,10 @@ unfolding atStart
 start-few rs Nothing e = reply-few rs 0 0 nobody 0 e
 start-few rs (Value v) e = reply-few rs 1 0 nobody v e
 
-unslotted : (l : List InnerCommand) → map (λ (s : InnerSlot). s .command) (map slot l) ≡ l
-unslotted [] = refl
-unslotted (x ∷ l) = ap (λ (r : List InnerCommand). x ∷ r) (unslotted l)
-
 pub reply-back : (y : Reply) → length (y .out) ≤ 4 → replyOf (reactionOf y) ≡ y
 unfolding pad
 reply-back y h =
     let n = length-map (y .out) slot in
     let e : take (length (y .out)) (slotsOf (y .out)) ≡ map slot (y .out) = take-at (map slot (y .out)) _ (length (y .out)) n in
-    let f : map (λ (s : InnerSlot). s .command) (take (length (y .out)) (slotsOf (y .out))) ≡ y .out = ap (map (λ (s : InnerSlot). s .command)) e ∙ unslotted (y .out) in
+    let f : map (λ (s : InnerSlot). s .command) (take (length (y .out)) (slotsOf (y .out))) ≡ y .out = ap (map (λ (s : InnerSlot). s .command)) e ∙ map-back slot (λ (s : InnerSlot). s .command) (λ c. refl) (y .out) in
     λ i. record { touched = y .touched; state = y .state; out = f i }

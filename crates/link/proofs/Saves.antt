@@ -21,7 +21,7 @@ use Rattle.output.specs.declared.LinkCommand.{LinkCommand}
 use Rattle.output.specs.Views.{commandAs, commandView}
 use Rattle.output.proofs.Outputs.{commands-back}
 use Rattle.link.specs.declared.Link.{Link}
-use Rattle.link.specs.Views.{toldBy, didAs}
+use Rattle.link.specs.Views.{linkView, linkAs, toldBy, didAs}
 
 -- There and back: commands of which each Save saves d.
 pub record Alike (d : rules.Durable) (l : List rules.Command) : Type 0 where
@@ -99,3 +99,6 @@ module _ (c : Limits) (i : Id) where
 pub told-back : (l : Link) (h : rules.Did) → Alike (h .link .durable) (h .commands) → toldBy (didAs l (done h)) ≡ h .commands
 told-back l h a =
     ap₂ (λ (d : rules.Durable) (k : List LinkCommand). map (commandView d) k) (durable-back (h .link .durable)) (commands-back (map commandAs (h .commands))) ∙ a .same
+
+pub link-back : (l : rules.Link) → linkView (linkAs l) ≡ l
+link-back l = let e = durable-back (l .durable) in λ i. record { durable = e i; state = l .state }

@@ -28,7 +28,6 @@ ghost use Rattle.types.specs.declared.Id.{Id};
 ghost use Rattle.types.specs.declared.Payload.{Payload};
 ghost use Rattle.types.specs.declared.Message.the-variants.{Deliver};
 ghost use Rattle.types.specs.declared.Answer.the-variants.{Done};
-ghost use Rattle.types.specs.declared.InnerCommand.the-variants as inner;
 ghost use Rattle.rules.specs.Outcome.{bind, base};
 ghost use Rattle.rules.specs.Inner.{ignored};
 ghost use Rattle.rules.specs.Link as rules;

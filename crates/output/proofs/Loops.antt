@@ -8,7 +8,6 @@ use mathlib.Core.List.{List, [], _∷_, map}
 use lib.ListN.{length, take, drop, getD, drop-of-length-le}
 use lib.Seq.{length-take-le, drop-cons, getD-take}
 use Rattle.types.specs.declared.InnerCommand.{InnerCommand}
-use Rattle.rules.specs.Link as rules
 use Rattle.inner.specs.declared.InnerSlot.{InnerSlot}
 use Rattle.output.proofs.Outputs.{outside}
 

@@ -3,7 +3,7 @@
 use Prim.Native.Nat.{ℕ, suc, _+_, _≤_, _<_, zero-le}
 use native.Mathlib.Omega.{arith}
 use mathlib.Core.Path.{_≡_, refl, sym, ap, _∙_}
-use mathlib.Core.Bool.{Bool, true, false, not, _&&_, _||_, true≢false, false≢true}
+use mathlib.Core.Bool.{Bool, true, false, not, _&&_, true≢false, false≢true}
 use mathlib.Core.List.{List, [], _∷_, _++_, map, map-append, append-assoc, append-nil}
 use lib.ListN.{length, take, set, length-map, length-append, length-take}
 use lib.Seq.{take-at}
@@ -12,7 +12,7 @@ use borrow.Author.Tests.{ltb-true, leb-true, lt-ltb, le-ltb, ne-eqb}
 use Rattle.lists.specs.Lists.{choose, any, all, pad}
 use Rattle.lists.proofs.Members.{every-cons}
 use Rattle.lists.proofs.Places.{append-pad}
-use Rattle.lists.proofs.Walks.{any-not-all}
+use Rattle.lists.proofs.Walks.{all-map, any-not-all, map-back}
 use Rattle.types.specs.declared.Answer.{Answer}
 use Rattle.types.specs.declared.Id.{Id}
 use Rattle.types.specs.declared.Payload.{Payload}
@@ -21,7 +21,7 @@ use Rattle.types.specs.declared.InnerCommand.{InnerCommand}
 use Rattle.types.specs.declared.InnerCommand.the-variants as inner
 use Rattle.types.specs.Answers.{answerOf}
 use Rattle.rules.specs.Outcome.{Outcome, done, refused, bind, guard, Limits, base}
-use Rattle.rules.specs.Inner.{ignored}
+use Rattle.rules.specs.Inner.{Reply, ignored}
 use Rattle.rules.specs.Link as rules
 use Rattle.rules.proofs.Laws.{Holds, holds-done, holds-map, holds-bind, holds-guard}
 use Rattle.inner.specs.declared.InnerSlot.{InnerSlot}
@@ -38,13 +38,9 @@ use Rattle.output.specs.declared.Output.{Output}
 use Rattle.output.specs.Views.{slot, commandsIn, commandsOf, commandAs, outputAs, Whole}
 
 -- ---- the commands that the struct holds
-unslotted : (l : List LinkCommand) → map (λ (s : CommandSlot). s .command) (map slot l) ≡ l
-unslotted [] = refl
-unslotted (c ∷ l) = ap (λ (r : List LinkCommand). c ∷ r) (unslotted l)
-
 pub commands-back : (l : List LinkCommand) → commandsIn (commandsOf l) ≡ l
 unfolding pad
-commands-back l = ap (map (λ (s : CommandSlot). s .command)) (take-at (map slot l) _ (length l) (length-map l slot)) ∙ unslotted l
+commands-back l = ap (map (λ (s : CommandSlot). s .command)) (take-at (map slot l) _ (length l) (length-map l slot)) ∙ map-back slot (λ (s : CommandSlot). s .command) (λ c. refl) l
 
 pub commands-same : (cs : Commands) (l : List LinkCommand) → cs ≡ commandsOf l → cs ≡ commandsOf (commandsIn cs)
 commands-same cs l e = e ∙ ap commandsOf (sym (ap commandsIn e ∙ commands-back l))
@@ -295,13 +291,10 @@ outside = record { command = inner.SetTimer 0 }
 abbrev pub passing : InnerSlot → Bool
 passing s = not (rules.durably (s .command))
 
-any-map : {A B : Type 0} (p : B → Bool) (f : A → B) (l : List A) → any p (map f l) ≡ any (λ (x : A). p (f x)) l
-unfolding any
-any-map p f [] = refl
-any-map p f (x ∷ l) = ap (λ (b : Bool). p (f x) || b) (any-map p f l)
-
 pub saves-any : (l : List InnerSlot) → any rules.durably (map (λ (s : InnerSlot). s .command) l) ≡ not (all passing l)
-saves-any l = any-map rules.durably (λ (s : InnerSlot). s .command) l ∙ any-not-all (λ (s : InnerSlot). rules.durably (s .command)) l
+saves-any l =
+    any-not-all rules.durably (map (λ (s : InnerSlot). s .command) l)
+    ∙ ap not (sym (all-map (λ (c : InnerCommand). not (rules.durably c)) (λ (s : InnerSlot). s .command) l))
 
 told-none : (l : List InnerSlot) (u : ℕ) → u ≤ length l → not (any (λ _. true) (map (λ (s : InnerSlot). s .command) (take u l))) ≡ eqb u 0
 unfolding any
@@ -312,3 +305,7 @@ told-none (x ∷ l) (suc u) h = sym (ne-eqb (suc u) 0 (λ e. omega arith))
 pub ignored-is : (r : Reaction) → r .used ≤ length (r .commands) → ignored (replyOf r) ≡ (not (r .touched) && eqb (r .used) 0)
 unfolding ignored
 ignored-is r h = ap (λ (b : Bool). not (r .touched) && b) (told-none (r .commands) (r .used) h)
+
+pub touched-not-ignored : (y : Reply) → y .touched ≡ true → false ≡ ignored y
+unfolding ignored
+touched-not-ignored y e = rw e
