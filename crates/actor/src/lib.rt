@@ -1,13 +1,21 @@
 // One actor: its crashed mark, its timers, its link, and what it has stored. Its table stands apart, since no step changes it.
 use durable::Durable;
+use durable::Pendings;
 use durable::Stored;
+use durable::Taken;
 use durable::durable_ok;
 use durable::stored_ok;
 use link::Link;
 use timers::Timers;
 use types::Answer;
+use types::Id;
+use types::Number;
+use types::Payload;
+use types::Pending;
+use types::Storage;
 ghost use mathlib.Core.Path.{_≡_};
 ghost use mathlib.Core.Bool.{true};
+ghost use Rattle.durable.specs.Views.{zeroDurable, durableAs};
 ghost use Rattle.actor.specs.Views.{ActorLaid, quiet, actorFine, zeroActor, zeroed, blankActor, isDone};
 
 pub struct Actor {
@@ -34,6 +42,48 @@ pub fn is_done(a: Answer) -> bool
         Answer::StartRefused => false,
         Answer::Unreadable => false,
         Answer::UnknownName => false,
+    }
+}
+
+// ---- all zero
+fn no_durable() -> Durable
+    ensures { λ r. ⌜ r ≡ durableAs zeroDurable ⌝ }
+{
+    let q = Pending {
+        number: Number(0),
+        dst: Id(0),
+        payload: Payload(0),
+    };
+    Durable {
+        next: Number(0),
+        pending: Pendings {
+            records: [q; 32],
+            used: 0,
+        },
+        taken: Taken {
+            last: [Number(0); 8],
+            used: 0,
+        },
+        inner: Storage::Nothing,
+    }
+}
+
+// The actor at a place that is not used.
+pub fn zero_actor() -> Actor
+    ensures { λ r. ⌜ r ≡ zeroActor ⌝ }
+{
+    let d = no_durable();
+    Actor {
+        crashed: false,
+        timers: Timers(0),
+        link: Link {
+            durable: d,
+            state: 0,
+        },
+        stored: Stored {
+            some: false,
+            durable: d,
+        },
     }
 }
 
