@@ -3,7 +3,7 @@
 use Prim.Native.Nat.{ℕ, _-_, _≤_}
 use native.Mathlib.Omega.{arith}
 use mathlib.Core.Path.{_≡_, refl, sym, ap, subst, _∙_}
-use mathlib.Core.Bool.{Bool, true, false, true≢false}
+use mathlib.Core.Bool.{Bool, true, false, _&&_, true≢false, and-true}
 use mathlib.Core.List.{List, [], _∷_, _++_, List·Memᴰ·head, List·Memᴰ·tail, Memᴰ·append-right}
 use lib.ListN.{length, take, drop, replicate, length-drop, take-append-drop}
 use lib.Seq.{length-take-le}
@@ -90,6 +90,11 @@ table-parts t e = let a = every-cons _ _ e in let b = every-cons _ _ (a .1) in (
 pub table-make : (t : Table) → tableLaid t ≡ true → sound (rulesOf t) ≡ true → tableOk t ≡ true
 unfolding tableOk tableLaid
 table-make t e h = let a = every-cons _ _ e in every-make _ _ (a .0) (every-make _ _ (every-cons _ _ (a .1) .0) (every-make _ _ h every-nil))
+
+-- A table with no rules is sound.
+pub blank-ok : (t : Table) → t .used ≡ 0 → blankTable t ≡ tableOk t
+unfolding blankTable tableLaid tableOk sound all every
+blank-ok t e = rw e (and-true (all blankRule (t .rules) && true))
 
 pub blank-laid : (t : Table) → blankTable t ≡ true → tableLaid t ≡ true
 unfolding blankTable
