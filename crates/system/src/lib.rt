@@ -1,0 +1,58 @@
+// A system of actors: its network, its actors, and their tables.
+use actor::Actor;
+use actor::zero_actor;
+use inner::Table;
+use network::Network;
+use types::Kind;
+use types::Rule;
+use types::RuleCommand;
+use types::Slot;
+ghost use mathlib.Core.Path.{_≡_};
+ghost use Rattle.rules.specs.Start as start;
+ghost use Rattle.system.specs.Views.{zeroTable, systemOf};
+
+// The first `count` actors are in use, each with the table at its place. Actors and tables from the count on are zero.
+pub struct System {
+    pub count: usize,
+    pub network: Network,
+    pub actors: [Actor; 8],
+    pub tables: [Table; 8],
+}
+
+// The table at a place that is not used: all zero.
+pub fn zero_table() -> Table
+    ensures { λ r. ⌜ r ≡ zeroTable ⌝ }
+{
+    let s = Slot {
+        command: RuleCommand::SetTimer(0),
+    };
+    let r = Rule {
+        event: 0,
+        state: 0,
+        low: 0,
+        high: 0,
+        touched: false,
+        next: 0,
+        commands: [s; 4],
+        used: 0,
+    };
+    Table {
+        rules: [r; 16],
+        used: 0,
+    }
+}
+
+// The blank system has no actors.
+pub fn blank() -> System
+    ensures { λ r. ⌜ r ≡ systemOf start.blank ⌝ }
+{
+    let n = network::blank(Kind::Ordered);
+    let a = zero_actor();
+    let t = zero_table();
+    System {
+        count: 0,
+        network: n,
+        actors: [a; 8],
+        tables: [t; 8],
+    }
+}

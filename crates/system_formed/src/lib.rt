@@ -1,0 +1,120 @@
+// Whether a system is laid out and well formed, asked of any content that the struct can hold.
+use actor::Actor;
+use actor::actor_ok;
+use actor::blank_actor;
+use inner::Table;
+use inner::sound_table;
+use network_formed::net_ok;
+use system::System;
+ghost use mathlib.Core.Path.{_≡_};
+ghost use mathlib.Core.Bool.{true};
+ghost use Prim.Native.Nat.{_≤_};
+ghost use lib.ListN.{take, drop};
+ghost use Rattle.lists.specs.Lists.{all};
+ghost use Rattle.inner.specs.Views.{tableOk};
+ghost use Rattle.actor.specs.Views.{actorFine, blankActor};
+ghost use Rattle.system.specs.Views.{SystemLaid, blankTable, systemFine};
+
+// The actors in use.
+fn actors_ok(actors: [Actor; 8], count: usize) -> bool
+    requires { ⌜ count ≤ 8 ⌝ }
+    ensures { λ r. ⌜ r ≡ all (actorFine count) (take count actors) ⌝ }
+{
+    let mut i = 0;
+    while i < count {
+        let here = actors[i];
+        if !actor_ok(here, count) {
+            return false;
+        }
+        i += 1;
+    }
+    true
+}
+
+// Their tables.
+fn tables_ok(tables: [Table; 8], count: usize) -> bool
+    requires { ⌜ count ≤ 8 ⌝ }
+    ensures { λ r. ⌜ r ≡ all tableOk (take count tables) ⌝ }
+{
+    let mut i = 0;
+    while i < count {
+        let here = tables[i];
+        if !sound_table(here) {
+            return false;
+        }
+        i += 1;
+    }
+    true
+}
+
+// The other actors.
+fn actors_blank(actors: [Actor; 8], count: usize) -> bool
+    requires { ⌜ count ≤ 8 ⌝ }
+    ensures { λ r. ⌜ r ≡ all blankActor (drop count actors) ⌝ }
+{
+    let mut i = count;
+    while i < 8 {
+        let here = actors[i];
+        if !blank_actor(here) {
+            return false;
+        }
+        i += 1;
+    }
+    true
+}
+
+// A table with no rules is sound where it is laid out.
+fn blank_table(t: Table) -> bool
+    ensures { λ r. ⌜ r ≡ blankTable t ⌝ }
+{
+    if t.used != 0 {
+        return false;
+    }
+    sound_table(t)
+}
+
+// The other tables.
+fn tables_blank(tables: [Table; 8], count: usize) -> bool
+    requires { ⌜ count ≤ 8 ⌝ }
+    ensures { λ r. ⌜ r ≡ all blankTable (drop count tables) ⌝ }
+{
+    let mut i = count;
+    while i < 8 {
+        let here = tables[i];
+        if !blank_table(here) {
+            return false;
+        }
+        i += 1;
+    }
+    true
+}
+
+// A system that passes is laid out.
+pub fn well_formed(s: System) -> bool
+    ensures { λ r. ⌜ r ≡ systemFine s ⌝ }
+    ensures laid { λ r. ⌜ (r ≡ true → SystemLaid s) ⌝ }
+{
+    let count = s.count;
+    let network = s.network;
+    let actors = s.actors;
+    let tables = s.tables;
+    if count < 1 {
+        return false;
+    }
+    if 8 < count {
+        return false;
+    }
+    if !net_ok(network, count) {
+        return false;
+    }
+    if !actors_ok(actors, count) {
+        return false;
+    }
+    if !tables_ok(tables, count) {
+        return false;
+    }
+    if !actors_blank(actors, count) {
+        return false;
+    }
+    tables_blank(tables, count)
+}
