@@ -4,7 +4,6 @@ use Prim.Native.Nat.{ℕ, zero, suc}
 use native.Mathlib.Omega.{arith}
 use mathlib.Core.Path.{_≡_, refl}
 use mathlib.Core.List.{List}
-use lib.Dec.{lit≤}
 use Rattle.layout.specs.Form.{Got, got, bad, recordOf}
 use Rattle.types.specs.declared.Envelope.{Envelope}
 use Rattle.types.specs.declared.Rule.{Rule}
@@ -23,7 +22,7 @@ use Rattle.script.specs.declared.Phase.the-variants as phase
 use Rattle.script.specs.declared.Next.{Next}
 use Rattle.script.specs.declared.Next.the-variants.{On, End, Bad}
 use Rattle.script.specs.Phases.{tablesOf, stepFrom, itemStep}
-use Rattle.script.proofs.Due.{Sized, sized}
+use Rattle.records.proofs.Laws.{rule-sized}
 
 abbrev pub headerNext : HeaderRead → Next
 headerNext (header.Found h n) = On (tablesOf (h .actors)) n
@@ -63,10 +62,6 @@ taken-next bad = refl
 abbrev pub sizeNext : Phase → ℕ → Next
 sizeNext q zero = Bad
 sizeNext q (suc n) = On q (suc n)
-
-rule-sized : (xs : List ℕ) → Sized xs ruleForm
-unfolding ruleForm
-rule-sized xs = sized xs 2 _ (lit≤ tt)
 
 size-next : (xs : List ℕ) (q : Phase) (g : Got Rule) → recordOf ruleForm xs ≡ g → sizeNext q (ruleRead g .size) ≡ stepFrom (λ _. q) g
 size-next xs q (got r zero) h = absurd (omega (arith, rule-sized xs r zero h))

@@ -8,11 +8,11 @@ use borrow.Author.Tests.{le-leb, lt-leb}
 use lib.Dec.{lit≤}
 use lib.ListN.{length, getD, drop, length-drop}
 use Rattle.lists.specs.Lists.{choose}
-use Rattle.layout.specs.Bits.{fieldAt}
-use Rattle.layout.specs.Form.{Form, refuse, field, Got, got, bad, recordOf}
+use Rattle.layout.specs.Form.{Form, refuse, Got, got, bad, recordOf}
 use Rattle.layout.specs.Read.{Reading, read, badAt, Reader, placed, one, onward, joining, repeat}
-use Rattle.layout.proofs.Laws.{found, follow-from, record-fits}
+use Rattle.layout.proofs.Laws.{found}
 use Rattle.types.specs.declared.Rule.{Rule}
+use Rattle.records.proofs.Laws.{Sized, sized}
 use Rattle.types.specs.declared.Envelope.{Envelope}
 use Rattle.types.specs.declared.Action.{Action}
 use Rattle.rules.specs.Script.{Version, Header, headerForm, ruleCountForm, ruleForm, envelopeCountForm, envelopeForm, Item, end, act, actionKinds, actionForm, takeAction, Script, tableFrom, envelopesFrom, closed, afterItem, actionsWithin, actionsFrom, scriptFrom, readScript}
@@ -72,19 +72,8 @@ module _ {A : Type 0} where
 
 -- ---- sizes
 module _ {A : Type 0} (xs : List ℕ) where
-  -- every record of this form has a byte, and lies within the bytes
-  abbrev pub Sized : Form A → Type 0
-  Sized f = (a : A) (n : ℕ) → recordOf f xs ≡ got a n → (1 ≤ n) × (n ≤ length xs)
-
-  pub sized : (w : ℕ) (k : ℕ → Form A) → 1 ≤ w → Sized (field w k)
-  sized w k h a n e =
-      let r = found (field w k) xs e in (
-        omega (arith, r .size, follow-from xs (k (fieldAt xs 0 w)) (0 + w) (r .follows)),
-        record-fits (field w k) xs e,
-      )
-
   from-size
-      : (f : Form A) (k : A → Phase) (g : Got A) {q : Phase} {n : ℕ} → Sized f → recordOf f xs ≡ g → stepFrom k g ≡ On q n → (1 ≤ n) × (n ≤ length xs)
+      : (f : Form A) (k : A → Phase) (g : Got A) {q : Phase} {n : ℕ} → Sized xs f → recordOf f xs ≡ g → stepFrom k g ≡ On q n → (1 ≤ n) × (n ≤ length xs)
   from-size f k (got a m) {q} {n} s h e =
       let z : m ≡ n = cc in
       let r = s _ _ h in
