@@ -14,7 +14,7 @@ use Rattle.layout.proofs.Laws.{record-fits}
 use Rattle.types.specs.declared.Envelope.{Envelope}
 use Rattle.types.specs.declared.Rule.{Rule}
 use Rattle.rules.specs.Script.{Header, ruleForm, Item, end, act}
-use Rattle.records.specs.Views.{headerRead, countRead, ruleRead, envelopeRead, takenOf}
+use Rattle.records.specs.Views.{headerRead, countRead, ruleRead, envelopeRead, takenOf, sizeTaken}
 use Rattle.records.proofs.Laws.{rule-sized}
 use Rattle.records.specs.declared.HeaderRead.{HeaderRead}
 use Rattle.records.specs.declared.HeaderRead.the-variants as header
@@ -116,12 +116,7 @@ unfolding one
 envelope-here f xs at = envelope-placed xs at (recordOf f xs)
 
 -- ---- actions
-abbrev pub takenSize : Taken → ℕ
-takenSize (taken.Act a n) = n
-takenSize (taken.End n) = n
-takenSize taken.Bad = 0
-
-pub taken-size : (g : Got Item) → takenSize (takenOf g) ≡ gotSize g
+pub taken-size : (g : Got Item) → sizeTaken (takenOf g) ≡ gotSize g
 taken-size (got end n) = refl
 taken-size (got (act a) n) = refl
 taken-size bad = refl

@@ -107,7 +107,7 @@ item-end xs f bad {n} s h e =
     let z : _≡_ {A = ℕ} 0 1 = cc in absurd (omega arith)
 
 module _ (v : Version) where
-  action-sized : (xs : List ℕ) → Sized xs (actionForm v)
+  pub action-sized : (xs : List ℕ) → Sized xs (actionForm v)
   unfolding actionForm
   action-sized xs = sized xs 3 (λ k. getD (actionKinds v) k refuse) (lit≤ tt)
 
@@ -121,7 +121,7 @@ module _ (v : Version) where
   same-item xs p bad f h e = refl
 
   -- any count of records above the length is enough
-  enough : (j k : ℕ) (xs : List ℕ) (p : ℕ) → length xs < j → length xs < k → actionsWithin j v xs p ≡ actionsWithin k v xs p
+  pub enough : (j k : ℕ) (xs : List ℕ) (p : ℕ) → length xs < j → length xs < k → actionsWithin j v xs p ≡ actionsWithin k v xs p
   unfolding actionsWithin one
   enough zero k xs p h l = absurd (omega arith)
   enough (suc j) zero xs p h l = absurd (omega arith)
@@ -207,16 +207,16 @@ module _ (v : Version) where
 
   -- ---- the whole script
   module _ (h : Header) where
-    abbrev scriptEnd : List (List Rule) → List Envelope → List Action → Reader Script
+    abbrev pub scriptEnd : List (List Rule) → List Envelope → List Action → Reader Script
     scriptEnd ts es l ws t = read (record { kind = h .kind; tables = ts; envelopes = es; actions = l }) ws t
 
-    abbrev afterEnvelopes : List (List Rule) → List Envelope → Reader Script
+    abbrev pub afterEnvelopes : List (List Rule) → List Envelope → Reader Script
     afterEnvelopes ts es us s = onward (actionsFrom v us s) (scriptEnd ts es)
 
-    abbrev afterTables : List (List Rule) → Reader Script
+    abbrev pub afterTables : List (List Rule) → Reader Script
     afterTables ts zs r = onward (envelopesFrom v zs r) (afterEnvelopes ts)
 
-    abbrev afterHeader : Reader Script
+    abbrev pub afterHeader : Reader Script
     afterHeader ys q = onward (repeat (h .actors) tableFrom ys q) afterTables
 
     layout-end : (ts : List (List Rule)) (es : List Envelope) (m : Reading (List Action)) → layoutOf (onward m (scriptEnd ts es)) ≡ layoutOf m

@@ -5,8 +5,8 @@ use mathlib.Core.List.{List}
 use lib.ListN.{drop}
 use Rattle.layout.specs.Form.{recordOf}
 use Rattle.rules.specs.Script.{version1, actionForm, takeAction}
-use Rattle.records.specs.Views.{takenOf}
-use Rattle.parts.proofs.Answers.{got-fits, takenSize, taken-size, takenHere, taken-here}
+use Rattle.records.specs.Views.{takenOf, sizeTaken}
+use Rattle.parts.proofs.Answers.{got-fits, taken-size, takenHere, taken-here}
 use borrow.Author.Needs.{needs}
 use Rattle.parts.proofs.action_at.Statement.{statement}
 use Rattle.parts.proofs.action_at.Tie as tie
@@ -27,7 +27,7 @@ add-t9 c =
     let a = r .before .before .before .args in
     let e : r .take-action .result ≡ takenOf (recordOf (actionForm version1) (drop (a .at) (a .s .now))) =
     r .take-action .ensures ∙ ap (λ (xs : List ℕ). takenOf (recordOf (actionForm version1) xs)) (r .before .from .ensures) in
-    omega (arith, got-fits (actionForm version1) (a .s .now) (a .at), ap takenSize (sym (c .before .t .given .1) ∙ e) ∙ taken-size (recordOf (actionForm version1) (drop (a .at) (a .s .now))))
+    omega (arith, got-fits (actionForm version1) (a .s .now) (a .at), ap sizeTaken (sym (c .before .t .given .1) ∙ e) ∙ taken-size (recordOf (actionForm version1) (drop (a .at) (a .s .now))))
 
 enum-known-t-2 : tie.Need-enum-known-t-2
 enum-known-t-2 c = search needs
@@ -39,7 +39,7 @@ add-t10 c =
     let a = r .before .before .before .args in
     let e : r .take-action .result ≡ takenOf (recordOf (actionForm version1) (drop (a .at) (a .s .now))) =
     r .take-action .ensures ∙ ap (λ (xs : List ℕ). takenOf (recordOf (actionForm version1) xs)) (r .before .from .ensures) in
-    omega (arith, got-fits (actionForm version1) (a .s .now) (a .at), ap takenSize (sym (c .before .t2 .given .1) ∙ e) ∙ taken-size (recordOf (actionForm version1) (drop (a .at) (a .s .now))))
+    omega (arith, got-fits (actionForm version1) (a .s .now) (a .at), ap sizeTaken (sym (c .before .t2 .given .1) ∙ e) ∙ taken-size (recordOf (actionForm version1) (drop (a .at) (a .s .now))))
 
 enum-told : tie.Need-enum-told
 enum-told c = search needs
