@@ -3,13 +3,13 @@
 use Prim.Native.Nat.{ℕ, _+_, _-_, _≤_, _<_}
 use native.Mathlib.Omega.{arith}
 use native.Mathlib.Nat.{add-zero}
-use mathlib.Core.Path.{_≡_, refl}
+use mathlib.Core.Path.{_≡_, refl, ap, _∙_}
 use mathlib.Core.List.{List}
 use borrow.Author.Tests.{lt-ltb}
 use lib.Dec.{ltb}
 use lib.ListN.{length, drop, length-drop}
 use Rattle.layout.specs.Form.{Form, Got, got, bad, recordOf}
-use Rattle.layout.specs.Read.{placed, one}
+use Rattle.layout.specs.Read.{Reading, placed, one}
 use Rattle.layout.proofs.Laws.{record-fits}
 use Rattle.types.specs.declared.Envelope.{Envelope}
 use Rattle.types.specs.declared.Rule.{Rule}
@@ -36,7 +36,7 @@ use Rattle.parts.specs.declared.ActionAt.{ActionAt}
 use Rattle.parts.specs.declared.ActionAt.the-variants as actionAt
 use Rattle.parts.specs.Views as views
 
--- ---- sizes: what was found lies within what is left
+-- ---- what was found lies within what is left
 module _ {A : Type 0} where
   abbrev gotSize : Got A → ℕ
   gotSize (got a n) = n
@@ -46,102 +46,112 @@ module _ {A : Type 0} where
   within f s at (got a n) h = omega (arith, record-fits f (drop at s) h, length-drop at s)
   within f s at bad h = omega arith
 
-  pub got-fits : (f : Form A) (s : List ℕ) (at : ℕ) → gotSize (recordOf f (drop at s)) ≤ length s - at
-  got-fits f s at = within f s at (recordOf f (drop at s)) refl
+-- ---- any reader: `img` is its answer, `size` the bytes of an answer, `here` the answer at a place, `out` the answer to a reading
+pub record Answering {A R T : Type 0} (img : Got A → R) (size : R → ℕ) (here : ℕ → R → T) (out : Reading A → T) : Type 0 where
+  pub sizes : (g : Got A) → size (img g) ≡ gotSize g
+  pub heres : (xs : List ℕ) (at : ℕ) (g : Got A) → here at (img g) ≡ out (placed g xs at)
+
+module _
+    {A R T : Type 0} {img : Got A → R} {size : R → ℕ} {here : ℕ → R → T} {out : Reading A → T} (k : Answering img size here out) (f : Form A) (s : List ℕ)
+    (at : ℕ) {xs : List ℕ} {r : R} (l : xs ≡ drop at s) (e : r ≡ img (recordOf f xs)) where
+  there : r ≡ img (recordOf f (drop at s))
+  there = e ∙ ap (λ (ys : List ℕ). img (recordOf f ys)) l
+
+  pub fits : size r ≤ length s - at
+  fits = omega (arith, ap size there ∙ k .sizes (recordOf f (drop at s)), within f s at (recordOf f (drop at s)) refl)
+
+  pub tells : here at r ≡ out (one f (drop at s) at)
+  unfolding one
+  tells = ap (here at) there ∙ k .heres (drop at s) at (recordOf f (drop at s))
 
 -- ---- the header
 abbrev pub headerSize : HeaderRead → ℕ
-headerSize (header.Found h n) = n
+headerSize (header.Found x n) = n
 headerSize header.Bad = 0
 
-pub header-size : (g : Got Header) → headerSize (headerRead g) ≡ gotSize g
-header-size (got h n) = refl
-header-size bad = refl
-
 abbrev pub headerHere : ℕ → HeaderRead → HeaderAt
-headerHere at (header.Found h n) = headerAt.Found h (at + n)
+headerHere at (header.Found x n) = headerAt.Found x (at + n)
 headerHere at header.Bad = headerAt.Bad at
 
-header-placed : (xs : List ℕ) (at : ℕ) (g : Got Header) → headerHere at (headerRead g) ≡ views.headerAt (placed g xs at)
-unfolding placed
-header-placed xs at (got h n) = refl
-header-placed xs at bad = refl
+header-sizes : (g : Got Header) → headerSize (headerRead g) ≡ gotSize g
+header-sizes (got x n) = refl
+header-sizes bad = refl
 
-pub header-here : (f : Form Header) (xs : List ℕ) (at : ℕ) → headerHere at (headerRead (recordOf f xs)) ≡ views.headerAt (one f xs at)
-unfolding one
-header-here f xs at = header-placed xs at (recordOf f xs)
+header-heres : (xs : List ℕ) (at : ℕ) (g : Got Header) → headerHere at (headerRead g) ≡ views.headerAt (placed g xs at)
+unfolding placed
+header-heres xs at (got x n) = refl
+header-heres xs at bad = refl
+
+pub header-answers : Answering headerRead headerSize headerHere views.headerAt
+header-answers = record { sizes = header-sizes; heres = header-heres }
 
 -- ---- counts
 abbrev pub countSize : CountRead → ℕ
-countSize (count.Found c n) = n
+countSize (count.Found x n) = n
 countSize count.Bad = 0
 
-pub count-size : (g : Got ℕ) → countSize (countRead g) ≡ gotSize g
-count-size (got c n) = refl
-count-size bad = refl
-
 abbrev pub countHere : ℕ → CountRead → CountAt
-countHere at (count.Found c n) = countAt.Found c (at + n)
+countHere at (count.Found x n) = countAt.Found x (at + n)
 countHere at count.Bad = countAt.Bad at
 
-count-placed : (xs : List ℕ) (at : ℕ) (g : Got ℕ) → countHere at (countRead g) ≡ views.countAt (placed g xs at)
-unfolding placed
-count-placed xs at (got c n) = refl
-count-placed xs at bad = refl
+count-sizes : (g : Got ℕ) → countSize (countRead g) ≡ gotSize g
+count-sizes (got x n) = refl
+count-sizes bad = refl
 
-pub count-here : (f : Form ℕ) (xs : List ℕ) (at : ℕ) → countHere at (countRead (recordOf f xs)) ≡ views.countAt (one f xs at)
-unfolding one
-count-here f xs at = count-placed xs at (recordOf f xs)
+count-heres : (xs : List ℕ) (at : ℕ) (g : Got ℕ) → countHere at (countRead g) ≡ views.countAt (placed g xs at)
+unfolding placed
+count-heres xs at (got x n) = refl
+count-heres xs at bad = refl
+
+pub count-answers : Answering countRead countSize countHere views.countAt
+count-answers = record { sizes = count-sizes; heres = count-heres }
 
 -- ---- envelopes
 abbrev pub envelopeSize : EnvelopeRead → ℕ
-envelopeSize (envelope.Found e n) = n
+envelopeSize (envelope.Found x n) = n
 envelopeSize envelope.Bad = 0
 
-pub envelope-size : (g : Got Envelope) → envelopeSize (envelopeRead g) ≡ gotSize g
-envelope-size (got e n) = refl
-envelope-size bad = refl
-
 abbrev pub envelopeHere : ℕ → EnvelopeRead → EnvelopeAt
-envelopeHere at (envelope.Found e n) = envelopeAt.Found e (at + n)
+envelopeHere at (envelope.Found x n) = envelopeAt.Found x (at + n)
 envelopeHere at envelope.Bad = envelopeAt.Bad at
 
-envelope-placed : (xs : List ℕ) (at : ℕ) (g : Got Envelope) → envelopeHere at (envelopeRead g) ≡ views.envelopeAt (placed g xs at)
-unfolding placed
-envelope-placed xs at (got e n) = refl
-envelope-placed xs at bad = refl
+envelope-sizes : (g : Got Envelope) → envelopeSize (envelopeRead g) ≡ gotSize g
+envelope-sizes (got x n) = refl
+envelope-sizes bad = refl
 
-pub envelope-here : (f : Form Envelope) (xs : List ℕ) (at : ℕ) → envelopeHere at (envelopeRead (recordOf f xs)) ≡ views.envelopeAt (one f xs at)
-unfolding one
-envelope-here f xs at = envelope-placed xs at (recordOf f xs)
+envelope-heres : (xs : List ℕ) (at : ℕ) (g : Got Envelope) → envelopeHere at (envelopeRead g) ≡ views.envelopeAt (placed g xs at)
+unfolding placed
+envelope-heres xs at (got x n) = refl
+envelope-heres xs at bad = refl
+
+pub envelope-answers : Answering envelopeRead envelopeSize envelopeHere views.envelopeAt
+envelope-answers = record { sizes = envelope-sizes; heres = envelope-heres }
 
 -- ---- actions
-pub taken-size : (g : Got Item) → sizeTaken (takenOf g) ≡ gotSize g
-taken-size (got end n) = refl
-taken-size (got (act a) n) = refl
-taken-size bad = refl
-
 abbrev pub takenHere : ℕ → Taken → ActionAt
 takenHere at (taken.Act a n) = actionAt.Act a (at + n)
 takenHere at (taken.End n) = actionAt.End (at + n)
 takenHere at taken.Bad = actionAt.Bad at
 
-taken-placed : (xs : List ℕ) (at : ℕ) (g : Got Item) → takenHere at (takenOf g) ≡ views.actionAt (placed g xs at)
+taken-sizes : (g : Got Item) → sizeTaken (takenOf g) ≡ gotSize g
+taken-sizes (got end n) = refl
+taken-sizes (got (act a) n) = refl
+taken-sizes bad = refl
+
+taken-heres : (xs : List ℕ) (at : ℕ) (g : Got Item) → takenHere at (takenOf g) ≡ views.actionAt (placed g xs at)
 unfolding placed
-taken-placed xs at (got end n) = refl
-taken-placed xs at (got (act a) n) = refl
-taken-placed xs at bad = refl
+taken-heres xs at (got end n) = refl
+taken-heres xs at (got (act a) n) = refl
+taken-heres xs at bad = refl
 
-pub taken-here : (f : Form Item) (xs : List ℕ) (at : ℕ) → takenHere at (takenOf (recordOf f xs)) ≡ views.actionAt (one f xs at)
-unfolding one
-taken-here f xs at = taken-placed xs at (recordOf f xs)
+pub taken-answers : Answering takenOf sizeTaken takenHere views.actionAt
+taken-answers = record { sizes = taken-sizes; heres = taken-heres }
 
--- ---- rules
-pub rule-size : (g : Got Rule) → ruleRead g .size ≡ gotSize g
-rule-size (got r n) = refl
-rule-size bad = refl
+-- ---- rules: one without bytes is bad
+rule-sizes : (g : Got Rule) → ruleRead g .size ≡ gotSize g
+rule-sizes (got r n) = refl
+rule-sizes bad = refl
 
--- a rule without bytes is bad
 abbrev pub ruleHere : ℕ → RuleRead → RuleAt
 ruleHere at r = record { found = ltb 0 (r .size); rule = r .rule; next = at + r .size }
 
@@ -151,6 +161,14 @@ rule-placed xs at (got r n) h =
     let z : 0 < n = omega (arith, rule-sized xs r n h) in rw (lt-ltb 0 n z)
 rule-placed xs at bad h = rw add-zero
 
-pub rule-here : (xs : List ℕ) (at : ℕ) → ruleHere at (ruleRead (recordOf ruleForm xs)) ≡ views.ruleAt (one ruleForm xs at)
-unfolding one
-rule-here xs at = rule-placed xs at (recordOf ruleForm xs) refl
+module _ (s : List ℕ) (at : ℕ) {xs : List ℕ} {r : RuleRead} (l : xs ≡ drop at s) (e : r ≡ ruleRead (recordOf ruleForm xs)) where
+  rule-there : r ≡ ruleRead (recordOf ruleForm (drop at s))
+  rule-there = e ∙ ap (λ (ys : List ℕ). ruleRead (recordOf ruleForm ys)) l
+
+  pub rule-fits : r .size ≤ length s - at
+  rule-fits =
+      omega (arith, ap (λ (x : RuleRead). x .size) rule-there ∙ rule-sizes (recordOf ruleForm (drop at s)), within ruleForm s at (recordOf ruleForm (drop at s)) refl)
+
+  pub rule-tells : ruleHere at r ≡ views.ruleAt (one ruleForm (drop at s) at)
+  unfolding one
+  rule-tells = ap (ruleHere at) rule-there ∙ rule-placed (drop at s) at (recordOf ruleForm (drop at s)) refl

@@ -1,12 +1,9 @@
 use native.Mathlib.Omega.{arith}
-use Prim.Native.Nat.{ℕ, _-_}
-use mathlib.Core.Path.{_≡_, sym, ap, _∙_}
-use mathlib.Core.List.{List}
-use lib.ListN.{drop}
-use Rattle.layout.specs.Form.{recordOf}
+use Prim.Native.Nat.{_-_}
+use mathlib.Core.Path.{sym, ap, _∙_}
 use Rattle.rules.specs.Script.{version1, actionForm, takeAction}
-use Rattle.records.specs.Views.{takenOf, sizeTaken}
-use Rattle.parts.proofs.Answers.{got-fits, taken-size, takenHere, taken-here}
+use Rattle.records.specs.Views.{sizeTaken}
+use Rattle.parts.proofs.Answers.{fits, tells, takenHere, taken-answers}
 use borrow.Author.Needs.{needs}
 use Rattle.parts.proofs.action_at.Statement.{statement}
 use Rattle.parts.proofs.action_at.Tie as tie
@@ -25,9 +22,7 @@ unfolding takeAction
 add-t9 c =
     let r = c .before .before .before in
     let a = r .before .before .before .args in
-    let e : r .take-action .result ≡ takenOf (recordOf (actionForm version1) (drop (a .at) (a .s .now))) =
-    r .take-action .ensures ∙ ap (λ (xs : List ℕ). takenOf (recordOf (actionForm version1) xs)) (r .before .from .ensures) in
-    omega (arith, got-fits (actionForm version1) (a .s .now) (a .at), ap sizeTaken (sym (c .before .t .given .1) ∙ e) ∙ taken-size (recordOf (actionForm version1) (drop (a .at) (a .s .now))))
+    omega (arith, fits taken-answers (actionForm version1) (a .s .now) (a .at) (r .before .from .ensures) (r .take-action .ensures), ap sizeTaken (c .before .t .given .1))
 
 enum-known-t-2 : tie.Need-enum-known-t-2
 enum-known-t-2 c = search needs
@@ -37,9 +32,7 @@ unfolding takeAction
 add-t10 c =
     let r = c .before .before .before in
     let a = r .before .before .before .args in
-    let e : r .take-action .result ≡ takenOf (recordOf (actionForm version1) (drop (a .at) (a .s .now))) =
-    r .take-action .ensures ∙ ap (λ (xs : List ℕ). takenOf (recordOf (actionForm version1) xs)) (r .before .from .ensures) in
-    omega (arith, got-fits (actionForm version1) (a .s .now) (a .at), ap sizeTaken (sym (c .before .t2 .given .1) ∙ e) ∙ taken-size (recordOf (actionForm version1) (drop (a .at) (a .s .now))))
+    omega (arith, fits taken-answers (actionForm version1) (a .s .now) (a .at) (r .before .from .ensures) (r .take-action .ensures), ap sizeTaken (c .before .t2 .given .1))
 
 enum-told : tie.Need-enum-told
 enum-told c = search needs
@@ -49,27 +42,21 @@ unfolding takeAction
 returns c =
     let r = c .before .before .before in
     let a = r .before .before .before .args in
-    let e : r .take-action .result ≡ takenOf (recordOf (actionForm version1) (drop (a .at) (a .s .now))) =
-    r .take-action .ensures ∙ ap (λ (xs : List ℕ). takenOf (recordOf (actionForm version1) xs)) (r .before .from .ensures) in
-    ap (takenHere (a .at)) (sym (c .before .t .given .1) ∙ e) ∙ taken-here (actionForm version1) (drop (a .at) (a .s .now)) (a .at)
+    ap (takenHere (a .at)) (sym (c .before .t .given .1)) ∙ tells taken-answers (actionForm version1) (a .s .now) (a .at) (r .before .from .ensures) (r .take-action .ensures)
 
 returns-2 : tie.Need-returns-2
 unfolding takeAction
 returns-2 c =
     let r = c .before .before .before in
     let a = r .before .before .before .args in
-    let e : r .take-action .result ≡ takenOf (recordOf (actionForm version1) (drop (a .at) (a .s .now))) =
-    r .take-action .ensures ∙ ap (λ (xs : List ℕ). takenOf (recordOf (actionForm version1) xs)) (r .before .from .ensures) in
-    ap (takenHere (a .at)) (sym (c .before .t2 .given .1) ∙ e) ∙ taken-here (actionForm version1) (drop (a .at) (a .s .now)) (a .at)
+    ap (takenHere (a .at)) (sym (c .before .t2 .given .1)) ∙ tells taken-answers (actionForm version1) (a .s .now) (a .at) (r .before .from .ensures) (r .take-action .ensures)
 
 returns-3 : tie.Need-returns-3
 unfolding takeAction
 returns-3 c =
     let r = c .before .before in
     let a = r .before .before .before .args in
-    let e : r .take-action .result ≡ takenOf (recordOf (actionForm version1) (drop (a .at) (a .s .now))) =
-    r .take-action .ensures ∙ ap (λ (xs : List ℕ). takenOf (recordOf (actionForm version1) xs)) (r .before .from .ensures) in
-    ap (takenHere (a .at)) (sym (c .enum-told .given .1) ∙ e) ∙ taken-here (actionForm version1) (drop (a .at) (a .s .now)) (a .at)
+    ap (takenHere (a .at)) (sym (c .enum-told .given .1)) ∙ tells taken-answers (actionForm version1) (a .s .now) (a .at) (r .before .from .ensures) (r .take-action .ensures)
 
 pub action-at-spec : {M : Type 1} → statement M
 action-at-spec =

@@ -1,12 +1,8 @@
 use native.Mathlib.Omega.{arith}
-use Prim.Native.Nat.{ℕ, _-_}
-use mathlib.Core.Path.{_≡_, sym, ap, _∙_}
-use mathlib.Core.List.{List}
-use lib.ListN.{drop}
-use Rattle.layout.specs.Form.{recordOf}
+use Prim.Native.Nat.{_-_}
+use mathlib.Core.Path.{sym, ap, _∙_}
 use Rattle.rules.specs.Script.{version1, envelopeCountForm}
-use Rattle.records.specs.Views.{countRead}
-use Rattle.parts.proofs.Answers.{got-fits, countSize, count-size, countHere, count-here}
+use Rattle.parts.proofs.Answers.{fits, tells, countSize, countHere, count-answers}
 use borrow.Author.Needs.{needs}
 use Rattle.parts.proofs.envelope_count_at.Statement.{statement}
 use Rattle.parts.proofs.envelope_count_at.Tie as tie
@@ -24,9 +20,7 @@ add-t8 : tie.Need-add-t8
 add-t8 c =
     let r = c .before .before .before in
     let a = r .before .before .before .args in
-    let e : r .read-envelope-count .result ≡ countRead (recordOf (envelopeCountForm version1) (drop (a .at) (a .s .now))) =
-    r .read-envelope-count .ensures ∙ ap (λ (xs : List ℕ). countRead (recordOf (envelopeCountForm version1) xs)) (r .before .from .ensures) in
-    omega (arith, got-fits (envelopeCountForm version1) (a .s .now) (a .at), ap countSize (sym (c .before .c .given .1) ∙ e) ∙ count-size (recordOf (envelopeCountForm version1) (drop (a .at) (a .s .now))))
+    omega (arith, fits count-answers (envelopeCountForm version1) (a .s .now) (a .at) (r .before .from .ensures) (r .read-envelope-count .ensures), ap countSize (c .before .c .given .1))
 
 enum-told : tie.Need-enum-told
 enum-told c = search needs
@@ -35,17 +29,13 @@ returns : tie.Need-returns
 returns c =
     let r = c .before .before .before in
     let a = r .before .before .before .args in
-    let e : r .read-envelope-count .result ≡ countRead (recordOf (envelopeCountForm version1) (drop (a .at) (a .s .now))) =
-    r .read-envelope-count .ensures ∙ ap (λ (xs : List ℕ). countRead (recordOf (envelopeCountForm version1) xs)) (r .before .from .ensures) in
-    ap (countHere (a .at)) (sym (c .before .c .given .1) ∙ e) ∙ count-here (envelopeCountForm version1) (drop (a .at) (a .s .now)) (a .at)
+    ap (countHere (a .at)) (sym (c .before .c .given .1)) ∙ tells count-answers (envelopeCountForm version1) (a .s .now) (a .at) (r .before .from .ensures) (r .read-envelope-count .ensures)
 
 returns-2 : tie.Need-returns-2
 returns-2 c =
     let r = c .before .before in
     let a = r .before .before .before .args in
-    let e : r .read-envelope-count .result ≡ countRead (recordOf (envelopeCountForm version1) (drop (a .at) (a .s .now))) =
-    r .read-envelope-count .ensures ∙ ap (λ (xs : List ℕ). countRead (recordOf (envelopeCountForm version1) xs)) (r .before .from .ensures) in
-    ap (countHere (a .at)) (sym (c .enum-told .given .1) ∙ e) ∙ count-here (envelopeCountForm version1) (drop (a .at) (a .s .now)) (a .at)
+    ap (countHere (a .at)) (sym (c .enum-told .given .1)) ∙ tells count-answers (envelopeCountForm version1) (a .s .now) (a .at) (r .before .from .ensures) (r .read-envelope-count .ensures)
 
 pub envelope-count-at-spec : {M : Type 1} → statement M
 envelope-count-at-spec =
