@@ -1,5 +1,4 @@
 use native.Mathlib.Omega.{arith}
-use Prim.Native.Nat.{_-_}
 use mathlib.Core.Path.{sym, ap, _∙_}
 use Rattle.rules.specs.Script.{version1, actionForm, takeAction}
 use Rattle.records.specs.Views.{sizeTaken}

@@ -1,4 +1,3 @@
-use Prim.Native.Nat.{_-_}
 use Rattle.lists.specs.Lists.{pad}
 use borrow.Author.Needs.{needs}
 use Rattle.parts.proofs.bad_table.Statement.{statement}

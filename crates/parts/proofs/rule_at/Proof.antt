@@ -1,5 +1,4 @@
 use native.Mathlib.Omega.{arith}
-use Prim.Native.Nat.{_-_}
 use Rattle.parts.proofs.Answers.{rule-fits, rule-tells}
 use borrow.Author.Needs.{needs}
 use Rattle.parts.proofs.rule_at.Statement.{statement}

@@ -1,5 +1,4 @@
 use native.Mathlib.Omega.{arith}
-use Prim.Native.Nat.{_-_}
 use mathlib.Core.Path.{sym, ap, _∙_}
 use Rattle.rules.specs.Script.{ruleCountForm}
 use Rattle.parts.proofs.Answers.{fits, tells, countSize, countHere, count-answers}

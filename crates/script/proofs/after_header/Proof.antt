@@ -1,4 +1,3 @@
-use Prim.Native.Nat.{_-_}
 use mathlib.Core.Path.{sym, ap, _∙_}
 use Rattle.layout.specs.Form.{recordOf}
 use Rattle.rules.specs.Script.{version1, headerForm}

@@ -1,4 +1,3 @@
-use Prim.Native.Nat.{_-_}
 use mathlib.Core.Path.{sym, ap, _∙_}
 use Rattle.rules.specs.Script.{version1}
 use Rattle.script.specs.declared.Phase.{Phase}
