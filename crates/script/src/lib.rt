@@ -1,4 +1,4 @@
-// The layout of a whole script, record after record, and the parts of a script by their places.
+// The layout of a whole script, record after record: it can be read, or its first bad record is at a place.
 use records::CountRead;
 use records::EnvelopeRead;
 use records::HeaderRead;
