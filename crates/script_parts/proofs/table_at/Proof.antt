@@ -3,11 +3,11 @@ use mathlib.Core.Path.{sym, ap, _∙_}
 use lib.ListN.{drop}
 use Rattle.layout.specs.Read.{Reading, one, onward, repeat}
 use Rattle.rules.specs.Script.{ruleCountForm, ruleForm, tableFrom}
-use Rattle.parts.specs.Views.{tableAt}
-use Rattle.parts.proofs.Readings.{count-found, count-bad, few-rules}
+use Rattle.script_parts.specs.Views.{tableAt}
+use Rattle.script_parts.proofs.Readings.{count-found, count-bad, few-rules}
 use borrow.Author.Needs.{needs}
-use Rattle.parts.proofs.table_at.Statement.{statement}
-use Rattle.parts.proofs.table_at.Tie as tie
+use Rattle.script_parts.proofs.table_at.Statement.{statement}
+use Rattle.script_parts.proofs.table_at.Tie as tie
 
 rule-count-at-requires : tie.Need-rule-count-at-requires
 rule-count-at-requires c κs = search needs

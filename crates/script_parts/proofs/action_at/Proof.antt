@@ -2,10 +2,10 @@ use native.Mathlib.Omega.{arith}
 use mathlib.Core.Path.{sym, ap, _∙_}
 use Rattle.rules.specs.Script.{version1, actionForm, takeAction}
 use Rattle.records.specs.Views.{sizeTaken}
-use Rattle.parts.proofs.Answers.{fits, tells, takenHere, taken-answers}
+use Rattle.script_parts.proofs.Answers.{fits, tells, takenHere, taken-answers}
 use borrow.Author.Needs.{needs}
-use Rattle.parts.proofs.action_at.Statement.{statement}
-use Rattle.parts.proofs.action_at.Tie as tie
+use Rattle.script_parts.proofs.action_at.Statement.{statement}
+use Rattle.script_parts.proofs.action_at.Tie as tie
 
 from-requires : tie.Need-from-requires
 from-requires c κs = search needs

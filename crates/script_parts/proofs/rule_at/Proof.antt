@@ -1,8 +1,8 @@
 use native.Mathlib.Omega.{arith}
-use Rattle.parts.proofs.Answers.{rule-fits, rule-tells}
+use Rattle.script_parts.proofs.Answers.{rule-fits, rule-tells}
 use borrow.Author.Needs.{needs}
-use Rattle.parts.proofs.rule_at.Statement.{statement}
-use Rattle.parts.proofs.rule_at.Tie as tie
+use Rattle.script_parts.proofs.rule_at.Statement.{statement}
+use Rattle.script_parts.proofs.rule_at.Tie as tie
 
 from-requires : tie.Need-from-requires
 from-requires c κs = search needs

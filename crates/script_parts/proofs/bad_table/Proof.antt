@@ -1,7 +1,7 @@
 use Rattle.lists.specs.Lists.{pad}
 use borrow.Author.Needs.{needs}
-use Rattle.parts.proofs.bad_table.Statement.{statement}
-use Rattle.parts.proofs.bad_table.Tie as tie
+use Rattle.script_parts.proofs.bad_table.Statement.{statement}
+use Rattle.script_parts.proofs.bad_table.Tie as tie
 
 zero-rule-requires : tie.Need-zero-rule-requires
 zero-rule-requires c κs = search needs

@@ -12,10 +12,10 @@ use Rattle.types.specs.declared.Rule.{Rule}
 use Rattle.rules.specs.Script.{ruleForm}
 use Rattle.records.specs.Views.{zeroRule}
 use Rattle.records.proofs.Laws.{more-used, more-laid}
-use Rattle.parts.specs.Views.{tableAt}
-use Rattle.parts.proofs.Readings.{rule-found, rule-bad, gathered, gathered-none, gathered-more, gathered-bad, gathered-all}
-use Rattle.parts.proofs.rules_at.Statement.{statement}
-use Rattle.parts.proofs.rules_at.Tie as tie
+use Rattle.script_parts.specs.Views.{tableAt}
+use Rattle.script_parts.proofs.Readings.{rule-found, rule-bad, gathered, gathered-none, gathered-more, gathered-bad, gathered-all}
+use Rattle.script_parts.proofs.rules_at.Statement.{statement}
+use Rattle.script_parts.proofs.rules_at.Tie as tie
 
 abbrev Inv-loop : tie.InvT-loop
 Inv-loop s at count rules₀ next₀ i₀ rules next i =

@@ -1,10 +1,10 @@
 use native.Mathlib.Omega.{arith}
 use mathlib.Core.Path.{sym, ap, _∙_}
 use Rattle.rules.specs.Script.{ruleCountForm}
-use Rattle.parts.proofs.Answers.{fits, tells, countSize, countHere, count-answers}
+use Rattle.script_parts.proofs.Answers.{fits, tells, countSize, countHere, count-answers}
 use borrow.Author.Needs.{needs}
-use Rattle.parts.proofs.rule_count_at.Statement.{statement}
-use Rattle.parts.proofs.rule_count_at.Tie as tie
+use Rattle.script_parts.proofs.rule_count_at.Statement.{statement}
+use Rattle.script_parts.proofs.rule_count_at.Tie as tie
 
 from-requires : tie.Need-from-requires
 from-requires c κs = search needs

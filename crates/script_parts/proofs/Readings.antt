@@ -15,9 +15,9 @@ use Rattle.layout.specs.Read.{Reading, read, badAt, Reader, placed, one, onward
 use Rattle.layout.proofs.Laws.{found}
 use Rattle.types.specs.declared.Rule.{Rule}
 use Rattle.rules.specs.Script.{ruleCountForm, ruleForm}
-use Rattle.parts.specs.declared.CountAt.the-variants as count
-use Rattle.parts.specs.declared.RuleAt.{RuleAt}
-use Rattle.parts.specs.Views.{countAt, ruleAt}
+use Rattle.script_parts.specs.declared.CountAt.the-variants as count
+use Rattle.script_parts.specs.declared.RuleAt.{RuleAt}
+use Rattle.script_parts.specs.Views.{countAt, ruleAt}
 
 -- ---- one record: what is left is what stands from the next place on
 module _ {A : Type 0} (s : List ℕ) (at : ℕ) where

@@ -25,16 +25,16 @@ use Rattle.records.specs.declared.EnvelopeRead.{EnvelopeRead}
 use Rattle.records.specs.declared.EnvelopeRead.the-variants as envelope
 use Rattle.records.specs.declared.Taken.{Taken}
 use Rattle.records.specs.declared.Taken.the-variants as taken
-use Rattle.parts.specs.declared.HeaderAt.{HeaderAt}
-use Rattle.parts.specs.declared.HeaderAt.the-variants as headerAt
-use Rattle.parts.specs.declared.CountAt.{CountAt}
-use Rattle.parts.specs.declared.CountAt.the-variants as countAt
-use Rattle.parts.specs.declared.RuleAt.{RuleAt}
-use Rattle.parts.specs.declared.EnvelopeAt.{EnvelopeAt}
-use Rattle.parts.specs.declared.EnvelopeAt.the-variants as envelopeAt
-use Rattle.parts.specs.declared.ActionAt.{ActionAt}
-use Rattle.parts.specs.declared.ActionAt.the-variants as actionAt
-use Rattle.parts.specs.Views as views
+use Rattle.script_parts.specs.declared.HeaderAt.{HeaderAt}
+use Rattle.script_parts.specs.declared.HeaderAt.the-variants as headerAt
+use Rattle.script_parts.specs.declared.CountAt.{CountAt}
+use Rattle.script_parts.specs.declared.CountAt.the-variants as countAt
+use Rattle.script_parts.specs.declared.RuleAt.{RuleAt}
+use Rattle.script_parts.specs.declared.EnvelopeAt.{EnvelopeAt}
+use Rattle.script_parts.specs.declared.EnvelopeAt.the-variants as envelopeAt
+use Rattle.script_parts.specs.declared.ActionAt.{ActionAt}
+use Rattle.script_parts.specs.declared.ActionAt.the-variants as actionAt
+use Rattle.script_parts.specs.Views as views
 
 -- ---- what was found lies within what is left
 module _ {A : Type 0} where

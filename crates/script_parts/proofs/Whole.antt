@@ -16,7 +16,7 @@ use Rattle.records.proofs.Laws.{Sized}
 use Rattle.script.specs.declared.Layout.the-variants as layout
 use Rattle.script.specs.Views.{layoutOf}
 use Rattle.script.proofs.Due.{enough, action-sized, scriptEnd, afterEnvelopes, afterTables, afterHeader}
-use Rattle.parts.proofs.Readings.{left-is}
+use Rattle.script_parts.proofs.Readings.{left-is}
 
 -- ---- first one reading, then another
 pub record Both {A B : Type 0} (m : Reading A) (k : A → Reader B) (b : B) (ys : List ℕ) (q : ℕ) : Type 0 where

@@ -11,16 +11,16 @@ use Rattle.layout.specs.Read.{Reading, read, badAt}
 use Rattle.rules.specs.Script.{Item, end, act}
 use Rattle.rules.specs.Script as script
 use Rattle.records.specs.Views.{zeroRule}
-use Rattle.parts.specs.declared.HeaderAt.{HeaderAt}
-use Rattle.parts.specs.declared.HeaderAt.the-variants as header
-use Rattle.parts.specs.declared.CountAt.{CountAt}
-use Rattle.parts.specs.declared.CountAt.the-variants as count
-use Rattle.parts.specs.declared.RuleAt.{RuleAt}
-use Rattle.parts.specs.declared.TableAt.{TableAt}
-use Rattle.parts.specs.declared.EnvelopeAt.{EnvelopeAt}
-use Rattle.parts.specs.declared.EnvelopeAt.the-variants as envelope
-use Rattle.parts.specs.declared.ActionAt.{ActionAt}
-use Rattle.parts.specs.declared.ActionAt.the-variants as action
+use Rattle.script_parts.specs.declared.HeaderAt.{HeaderAt}
+use Rattle.script_parts.specs.declared.HeaderAt.the-variants as header
+use Rattle.script_parts.specs.declared.CountAt.{CountAt}
+use Rattle.script_parts.specs.declared.CountAt.the-variants as count
+use Rattle.script_parts.specs.declared.RuleAt.{RuleAt}
+use Rattle.script_parts.specs.declared.TableAt.{TableAt}
+use Rattle.script_parts.specs.declared.EnvelopeAt.{EnvelopeAt}
+use Rattle.script_parts.specs.declared.EnvelopeAt.the-variants as envelope
+use Rattle.script_parts.specs.declared.ActionAt.{ActionAt}
+use Rattle.script_parts.specs.declared.ActionAt.the-variants as action
 
 abbrev pub headerAt : Reading script.Header → HeaderAt
 headerAt (read h xs p) = header.Found (record { kind = h .kind; actors = h .actors }) p
