@@ -1,0 +1,73 @@
+use native.Mathlib.Omega.{arith}
+use mathlib.Core.Path.{sym, ap, _∙_}
+use Rattle.rules.specs.Script.{version1, actionForm, takeAction}
+use Rattle.records.specs.Views.{sizeTaken}
+use Rattle.script_parts.proofs.Answers.{fits, tells, takenHere, taken-answers}
+use borrow.Author.Needs.{needs}
+use Rattle.script_parts.proofs.action_at.Statement.{statement}
+use Rattle.script_parts.proofs.action_at.Tie as tie
+
+from-requires : tie.Need-from-requires
+from-requires c κs = search needs
+
+take-action-requires : tie.Need-take-action-requires
+take-action-requires c κs = search needs
+
+enum-known-t : tie.Need-enum-known-t
+enum-known-t c = search needs
+
+add-t9 : tie.Need-add-t9
+unfolding takeAction
+add-t9 c =
+    let r = c .before .before .before in
+    let a = r .before .before .before .args in
+    omega (arith, fits taken-answers (actionForm version1) (a .s .now) (a .at) (r .before .from .ensures) (r .take-action .ensures), ap sizeTaken (c .before .t .given .1))
+
+enum-known-t-2 : tie.Need-enum-known-t-2
+enum-known-t-2 c = search needs
+
+add-t10 : tie.Need-add-t10
+unfolding takeAction
+add-t10 c =
+    let r = c .before .before .before in
+    let a = r .before .before .before .args in
+    omega (arith, fits taken-answers (actionForm version1) (a .s .now) (a .at) (r .before .from .ensures) (r .take-action .ensures), ap sizeTaken (c .before .t2 .given .1))
+
+enum-told : tie.Need-enum-told
+enum-told c = search needs
+
+returns : tie.Need-returns
+unfolding takeAction
+returns c =
+    let r = c .before .before .before in
+    let a = r .before .before .before .args in
+    ap (takenHere (a .at)) (sym (c .before .t .given .1)) ∙ tells taken-answers (actionForm version1) (a .s .now) (a .at) (r .before .from .ensures) (r .take-action .ensures)
+
+returns-2 : tie.Need-returns-2
+unfolding takeAction
+returns-2 c =
+    let r = c .before .before .before in
+    let a = r .before .before .before .args in
+    ap (takenHere (a .at)) (sym (c .before .t2 .given .1)) ∙ tells taken-answers (actionForm version1) (a .s .now) (a .at) (r .before .from .ensures) (r .take-action .ensures)
+
+returns-3 : tie.Need-returns-3
+unfolding takeAction
+returns-3 c =
+    let r = c .before .before in
+    let a = r .before .before .before .args in
+    ap (takenHere (a .at)) (sym (c .enum-told .given .1)) ∙ tells taken-answers (actionForm version1) (a .s .now) (a .at) (r .before .from .ensures) (r .take-action .ensures)
+
+pub action-at-spec : {M : Type 1} → statement M
+action-at-spec =
+    tie.close
+    (tie.spec
+    from-requires
+    take-action-requires
+    enum-known-t
+    add-t9
+    enum-known-t-2
+    add-t10
+    enum-told
+    returns
+    returns-2
+    returns-3)
