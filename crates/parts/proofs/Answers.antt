@@ -29,3 +29,16 @@ module _ (ok : ℕ → Bool) (six : ok 6 ≡ true) (seven : ok 7 ≡ true) (eigh
   pub on-wake : (c : Caps) (i : Id) (p : Part) → Among ok (wakePart c i p)
   unfolding wakePart
   on-wake c i p = on-bind ok six seven eight _ _ (on-started ok six seven eight (c .limits) i _ _) (λ h. on-finish c i p h)
+
+  pub on-deliver : ok 3 ≡ true → (c : Caps) (e : Envelope) (p : Part) → Among ok (deliverPart c e p)
+  unfolding deliverPart onDeliver
+  on-deliver three c e p = on-bind ok six seven eight _ _ (on-guard ok six seven eight _ _ _ three (on-done ok six seven eight _))
+      (λ n. on-bind ok six seven eight _ _ (on-msg ok six seven eight (c .limits) (e .dst) _ _ (e .src) (e .msg)) (λ h. on-finish c (e .dst) (netIn n p) h))
+
+  pub on-timed : ok 1 ≡ true → ok 5 ≡ true → (c : Caps) (i : Id) (t : ℕ) (p : Part) → Among ok (timeoutPart c i t p)
+  unfolding timeoutPart timedPart
+  on-timed one five c i t p = on-guard ok six seven eight _ _ _ five (on-bind ok six seven eight _ _ (on-timeout ok six seven eight (c .limits) i _ _ t) (λ h. on-guard ok six seven eight _ _ _ one (on-finish c i _ h)))
+
+  pub on-recover : ok 4 ≡ true → (c : Caps) (i : Id) (p : Part) → Among ok (recoverPart c i p)
+  unfolding recoverPart
+  on-recover four c i p = on-guard ok six seven eight _ _ _ four (on-wake c i _)

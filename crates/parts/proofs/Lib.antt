@@ -1,3 +1,4 @@
 pub mod Outcomes
 pub mod Laws
 pub mod Answers
+pub mod Kept

@@ -25,7 +25,7 @@ use Rattle.network.proofs.Changes.{held}
 use Rattle.network.proofs.Ready.{ready-of-ok, viewed, laid-of}
 use Rattle.network_formed.specs.Formed.{laidOut, netFormed}
 use Rattle.network_formed.proofs.Laws.{laid-out, laid-passes, formed-is}
-use Rattle.durable.proofs.Containers.{pad-rest, pad-view}
+use Rattle.durable.proofs.Containers.{pad-view}
 use Rattle.inner.specs.declared.Table.{Table}
 use Rattle.inner.specs.Views.{tableOk}
 use Rattle.actor.specs.declared.Actor.{Actor}
@@ -34,7 +34,7 @@ use Rattle.actor.proofs.Laws.{actor-laid, actor-back, actor-kept, fine-laid-out
 use Rattle.system.specs.declared.System.{System}
 use Rattle.system.specs.Views.{zeroTable, tableAs, TableLaid, seated, tableFor, sysView, systemOf, SystemLaid, tableLaid, blankTable, systemLaid, systemFine}
 use Rattle.system.proofs.Types.{SystemTyped}
-use Rattle.system.proofs.Tables.{all-same, drop-in, rest-same, table-laid, table-parts, table-make, blank-table, rules-back, table-kept}
+use Rattle.system.proofs.Tables.{pad-rest, all-same, drop-in, rest-same, table-laid, table-parts, table-make, blank-table, rules-back, table-kept}
 use Rattle.system.proofs.Tables as tables
 use Rattle.system.proofs.Seats.{zip-length, zip-get, actors-again, tables-again, seats-formed, seats-fine, seen-again}
 

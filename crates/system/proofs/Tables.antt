@@ -1,12 +1,12 @@
 -- A table that passes its test is that of its rules, and one of sound rules passes.
 -- Assumes nothing.
-use Prim.Native.Nat.{ℕ, _-_, _≤_}
+use Prim.Native.Nat.{ℕ, zero, suc, _-_, _≤_}
 use native.Mathlib.Omega.{arith}
 use mathlib.Core.Path.{_≡_, refl, sym, ap, subst, _∙_}
 use mathlib.Core.Bool.{Bool, true, false, _&&_, true≢false, and-true}
 use mathlib.Core.List.{List, [], _∷_, _++_, List·Memᴰ·head, List·Memᴰ·tail, Memᴰ·append-right}
 use lib.ListN.{length, take, drop, replicate, length-drop, take-append-drop}
-use lib.Seq.{length-take-le}
+use lib.Seq.{length-take-le, drop-at}
 use lib.Dec.{leb, eqb, lit≤}
 use borrow.Author.Tests.{leb-true, le-leb, eqb-true}
 use Rattle.lists.specs.Lists.{_∈_, all, every, pad}
@@ -19,7 +19,7 @@ use Rattle.types.specs.declared.Slot.{Slot}
 use Rattle.rules.specs.WellFormed.{zeroCommand, unused, ruleOk, sound}
 use Rattle.inner.specs.declared.Table.{Table}
 use Rattle.inner.specs.Views.{rulesOf, blankRule, tableOk}
-use Rattle.durable.proofs.Containers.{pad-rest, pad-view}
+use Rattle.durable.proofs.Containers.{pad-view}
 use Rattle.system.specs.Views.{zeroSlot, zeroRule, tableAs, TableLaid, zeroTable, tableLaid, blankTable}
 use Rattle.system.proofs.Types.{TableTyped}
 
@@ -33,6 +33,17 @@ module _ {A : Type 0} (p : A → Bool) (z : A) where
       let h = and-both (p x) _ e in
       let a = f x (List·Memᴰ·head refl) (h .0) in let b = all-same l (λ y m. f y (List·Memᴰ·tail m)) (h .1) in
       λ i. a i ∷ b i
+
+-- An array that holds a list passes the test where it is not used, if what fills it does.
+module _ {A : Type 0} (p : A → Bool) (z : A) (passes : p z ≡ true) where
+  all-fill : (k : ℕ) → all p (replicate k z) ≡ true
+  unfolding all
+  all-fill zero = refl
+  all-fill (suc k) = rw passes (all-fill k)
+
+  pub pad-rest : (n : ℕ) (l : List A) → all p (drop (length l) (pad n z l)) ≡ true
+  unfolding pad
+  pad-rest n l = ap (all p) (drop-at l _ (length l) refl) ∙ all-fill (n - length l)
 
 -- A place from some place on is a place.
 pub drop-in : {A : Type 0} (n : ℕ) (l : List A) (x : A) → x ∈ drop n l → x ∈ l
