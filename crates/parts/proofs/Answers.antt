@@ -6,7 +6,7 @@ use mathlib.Core.Bool.{Bool, true}
 use mathlib.Core.List.{List, [], _∷_}
 use Rattle.types.specs.declared.Id.{Id}
 use Rattle.types.specs.declared.Envelope.{Envelope}
-use Rattle.rules.specs.Outcome.{Outcome, Room, Caps}
+use Rattle.rules.specs.Outcome.{Room, Caps}
 use Rattle.rules.specs.Network.{send, onDeliver}
 use Rattle.rules.specs.Link.{Command, Set, Cancel, Send, Save, Did}
 use Rattle.rules.proofs.Answers.{Among, on-done, on-guard, on-bind, on-started, on-msg, on-timeout}

@@ -1,7 +1,7 @@
 -- No step changes an actor's rules: tables stand apart from what changes.
 -- Assumes nothing.
 use Prim.Native.Nat.{ℕ}
-use mathlib.Core.Path.{_≡_, refl}
+use mathlib.Core.Path.{_≡_}
 use mathlib.Core.List.{List, [], _∷_}
 use Rattle.types.specs.declared.Id.{Id}
 use Rattle.types.specs.declared.Envelope.{Envelope}

@@ -1,11 +1,10 @@
 -- A step touches the network and one actor: the rules' actions, part by part.
 -- Assumes nothing.
 use Prim.Native.Nat.{ℕ, zero, suc, _<_}
-use native.Mathlib.Omega.{arith}
 use mathlib.Core.Path.{_≡_, refl, sym, ap, _∙_}
-use mathlib.Core.Bool.{Bool, true, false, not, _&&_}
+use mathlib.Core.Bool.{not, _&&_}
 use mathlib.Core.List.{List, [], _∷_}
-use lib.ListN.{length, getD, set, length-set}
+use lib.ListN.{length, getD, set}
 use Rattle.types.specs.declared.Id.{Id}
 use Rattle.types.specs.declared.Envelope.{Envelope}
 use Rattle.rules.specs.Outcome.{Outcome, done, refused, bind, guard, Room, Caps}
@@ -13,7 +12,7 @@ use lib.Dec.{leb}
 use Rattle.rules.specs.Timers.{network, setTimer, cancelTimer}
 use Rattle.rules.specs.Network.{Net, send, onDrop}
 use Rattle.rules.specs.Link.{Command, Set, Cancel, Send, Save, Did, onStart}
-use Rattle.rules.specs.System.{Actor, Sys, actor, unstarted, known, withTimers, withStorage, withLink, withMark, withActor, withNet, runCommands, ended, finish, wake, timed, deliver, dropped, timeout, crash, recover}
+use Rattle.rules.specs.System.{Actor, Sys, actor, unstarted, known, withTimers, withStorage, withLink, withActor, withNet, runCommands, ended, finish, wake, timed, deliver, dropped, timeout, crash, recover}
 use Rattle.rules.proofs.Laws.{at-same}
 use Rattle.parts.specs.Parts.{Part, partOf, putBack, netIn, actorIn, runPart, finishPart, wakePart, deliverPart, timedPart, timeoutPart, crashPart, recoverPart, systems, mapped}
 use Rattle.parts.proofs.Outcomes.{systems-guard, systems-bind, systems-ended, mapped-guard, mapped-bind, bind-same, guard-same}

@@ -7,9 +7,7 @@ use lib.ListN.{length, getD, take, length-map, length-take}
 use lib.Seq.{slice-cons, slice-empty}
 use mathlib.Core.Path.{_≡_, refl, sym, ap, ap₂, _∙_, subst}
 use mathlib.Core.Bool.{Bool, true, false, not, _&&_, true≢false, false≢true}
-use mathlib.Core.Option.{Option}
 use mathlib.Core.List.{List, [], _∷_, map}
-use Rattle.lists.specs.Lists.{choose}
 use Rattle.lists.proofs.Members.{not-true}
 use Rattle.types.specs.declared.Id.{Id}
 use Rattle.types.specs.declared.Answer.{Answer}
@@ -19,7 +17,7 @@ use Rattle.types.specs.Answers.{answerOf}
 use Rattle.rules.specs.Outcome.{Outcome, done, refused, bind, guard, Caps, base}
 use Rattle.rules.specs.Network.{Net, onDeliver}
 use Rattle.rules.specs.Link as rules
-use Rattle.rules.specs.System.{Actor, withTimers, withLink, withMark, onlySets}
+use Rattle.rules.specs.System.{withTimers, withLink, withMark, onlySets}
 use Rattle.types.specs.declared.Answer.the-variants.{Live, NotSet, Ignored}
 use Rattle.timers.specs.declared.Timers.{Timers}
 use Rattle.timers.specs.Views.{listed, timersOf}
@@ -39,14 +37,14 @@ use Rattle.output.specs.Views.{commandView, commandsIn}
 use Rattle.link.specs.declared.Link.{Link}
 use Rattle.link.specs.declared.Did.{Did}
 use Rattle.link.specs.Views.{linkView, linkAs, didAs, toldBy}
-use Rattle.link.proofs.Saves.{Alike, told-back, start-tells, msg-tells, timeout-tells}
+use Rattle.link.proofs.Saves.{Alike, told-back, link-back, start-tells, msg-tells, timeout-tells}
 use Rattle.parts.specs.Parts.{Part, netIn, actorIn, runPart, finishPart, wakePart, deliverPart, timedPart, timeoutPart, crashPart, recoverPart}
 use Rattle.parts.proofs.Answers.{on-finish, on-wake}
 use Rattle.actor.specs.declared.Actor.{Actor as Struct}
 use Rattle.actor.specs.Views.{actorView, actorAs, ActorLaid, isDone}
 use Rattle.steps.specs.declared.Touched.{Touched}
 use Rattle.steps.specs.Views.{partView, didView, touchedOf, backTo}
-use Rattle.steps.proofs.Laws.{refusal, link-back, back-touched}
+use Rattle.steps.proofs.Laws.{refusal, back-touched}
 
 -- The answer of an outcome.
 abbrev answerIn : {A : Type 0} → Outcome A → Answer

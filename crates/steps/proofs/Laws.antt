@@ -6,7 +6,7 @@ use mathlib.Core.Path.{_≡_, refl, sym, ap, _∙_, subst}
 use Rattle.types.specs.Answers.{answerOf}
 use Rattle.types.specs.declared.Answer.the-variants.{Done}
 use mathlib.Core.Bool.{Bool, true, false, not, true≢false, false≢true}
-use mathlib.Core.Option.{Option, none, some}
+use mathlib.Core.Option.{some}
 use mathlib.Core.List.{List, [], _∷_, map, map-map}
 use lib.ListN.{length, getD, take}
 use lib.Seq.{slice, slice-cons, slice-empty}
@@ -23,16 +23,14 @@ use Rattle.rules.specs.System.{Actor, withTimers, withStorage, withLink}
 use Rattle.rules.proofs.Answers.{Among}
 use Rattle.lists.proofs.Members.{not-true}
 use Rattle.rules.proofs.Timers.{TimerSet, set-timers, cancel-timers}
-use Rattle.timers.specs.declared.Timers.{Timers}
 use Rattle.timers.specs.Views.{listed, timersOf}
-use Rattle.timers.proofs.Listed.{listed-timers, listed-timers-of}
+use Rattle.timers.proofs.Listed.{listed-timers}
 use Rattle.network.specs.declared.Network.{Network}
 use Rattle.network.specs.declared.Sent.{Sent}
 use Rattle.network.specs.Views.{netView, networkOf, NetReady, sentOf}
 use Rattle.network.proofs.Changes.{held}
 use Rattle.network.proofs.Ready.{viewed, send-ready}
 use Rattle.durable.specs.Views.{durableView, storedView, storedAs}
-use Rattle.durable.proofs.Containers.{durable-back}
 use Rattle.link.specs.declared.Link.{Link}
 use Rattle.output.specs.declared.CommandSlot.{CommandSlot}
 use Rattle.output.specs.declared.Commands.{Commands}
@@ -46,21 +44,8 @@ use Rattle.parts.proofs.Answers.{on-run}
 use Rattle.actor.specs.declared.Actor.{Actor as Struct}
 use Rattle.steps.specs.declared.Touched.{Touched}
 use Rattle.actor.specs.Views.{actorView, actorAs, ActorLaid, isDone}
+use Rattle.actor.proofs.Laws.{actor-back}
 use Rattle.steps.specs.Views.{partView, didView, touchedOf, backTo}
-
--- ---- what is stored, the link and the actor, seen again in their structs
-stored-back : (o : Option rules.Durable) → storedView (storedAs o) ≡ o
-unfolding storedView choose
-stored-back none = refl
-stored-back (some d) = ap some (durable-back d)
-
-pub link-back : (l : rules.Link) → linkView (linkAs l) ≡ l
-link-back l = λ i. record { durable = durable-back (l .durable) i; state = l .state }
-
-pub actor-back : (a : Actor) → TimerSet (a .timers) → actorView (a .rules) (actorAs a) ≡ a
-actor-back a h =
-    let t = listed-timers-of (a .timers) h in
-    λ i. record { rules = a .rules; crashed = a .crashed; timers = t i; link = link-back (a .link) i; storage = stored-back (a .storage) i }
 
 abbrev pub doneWith : Network → Struct → Touched
 doneWith n a = record { answer = Done; network = n; actor = a }
