@@ -1,0 +1,21 @@
+-- The answer struct of a step, and what a step's core asks of a system.
+-- Assumes nothing.
+use mathlib.Core.Path.{_≡_}
+use mathlib.Core.Bool.{true}
+use Rattle.types.specs.Answers.{answerOf}
+use Rattle.rules.specs.Outcome.{Outcome, done, refused, base}
+use Rattle.rules.specs.System.{Sys}
+use Rattle.rules.specs.WellFormed.{wellFormed}
+use Rattle.system.specs.declared.System.{System}
+use Rattle.system.specs.Views.{sysView, systemOf, SystemLaid}
+use Rattle.system_parts.specs.declared.Answered.{Answered}
+
+-- Laid out and well formed: what the test of a system finds, and what a step keeps.
+pub record Ready (s : System) : Type 0 where
+  pub laid : SystemLaid s
+  pub formed : wellFormed base (sysView s) ≡ true
+
+-- A refusal hands back the system s.
+abbrev pub answeredOf : System → Outcome Sys → Answered
+answeredOf s (done m) = record { answer = answerOf 0; system = systemOf m }
+answeredOf s (refused k) = record { answer = answerOf k; system = s }
