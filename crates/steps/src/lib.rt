@@ -24,7 +24,7 @@ ghost use Rattle.types.specs.declared.Rule.{Rule};
 ghost use Rattle.rules.specs.Outcome.{base};
 ghost use Rattle.types.specs.declared.Answer.the-variants.{Done};
 ghost use Rattle.rules.specs.Timers.{setTimer, cancelTimer};
-ghost use Rattle.rules.specs.Network.{send};
+ghost use Rattle.rules.specs.Network.{send, onDeliver};
 ghost use Rattle.rules.specs.Link.{Durable};
 ghost use Rattle.rules.specs.System.{onlySets};
 ghost use Rattle.timers.specs.Views.{listed, timersOf};
@@ -229,12 +229,11 @@ fn finish(i: Id, n: Network, a: Actor, d: Did) -> Touched
 }
 
 // ---- the actions, after 2 and Ignored for the destination
-// A message to a live actor: its envelope is delivered, then the commands run.
-pub fn deliver(e: Envelope, n: Network, a: Actor, t: Table) -> Touched
-    requires { ⌜ NetReady n × ActorLaid a × (tableOk t ≡ true) × (durableLaid (a .link .durable) ≡ true) × (e .src .0 < 8) ⌝ }
+// A message to a live actor: its envelope has been taken from the network as s says, then the commands run.
+pub fn deliver(e: Envelope, s: Sent, n: Network, a: Actor, t: Table) -> Touched
+    requires { ⌜ NetReady n × ActorLaid a × (tableOk t ≡ true) × (durableLaid (a .link .durable) ≡ true) × (e .src .0 < 8) × (s ≡ sentOf n (onDeliver e (netView n))) ⌝ }
     ensures { λ x. ⌜ x ≡ touchedOf n a (deliverPart base e (partView (rulesOf t) n a)) ⌝ }
 {
-    let s = network::on_deliver(n, e);
     let found = s.answer;
     if !is_done(found) {
         return refused(found, n, a);

@@ -6,9 +6,6 @@ use borrow.Author.Needs.{needs}
 use Rattle.steps.proofs.deliver.Statement.{statement}
 use Rattle.steps.proofs.deliver.Tie as tie
 
-on-deliver-requires : tie.Need-on-deliver-requires
-on-deliver-requires c κs = search needs
-
 is-done-requires : tie.Need-is-done-requires
 is-done-requires c κs = search needs
 
@@ -17,9 +14,9 @@ refused-requires c κs = search needs
 
 returns : tie.Need-returns
 returns c =
-    let s = c .before .before .before .before in
+    let s = c .before .before .before in
     c .refused .ensures
-    ∙ deliver-absent (rulesOf (s .args .t)) (s .args .n) (s .args .a) (s .args .e) (c .before .before .before .on-deliver .result) (c .before .before .before .on-deliver .ensures) (sym (c .before .before .is-done .ensures) ∙ not-true _ (c .before .if1 .taken))
+    ∙ deliver-absent (rulesOf (s .args .t)) (s .args .n) (s .args .a) (s .args .e) (s .args .s) (s .pre .5) (sym (c .before .before .is-done .ensures) ∙ not-true _ (c .before .if1 .taken))
 
 on-msg-requires : tie.Need-on-msg-requires
 on-msg-requires c κs = search needs
@@ -32,19 +29,19 @@ refused-requires-2 c κs = search needs
 
 returns-2 : tie.Need-returns-2
 returns-2 c =
-    let s = c .before .before .before .before .before .before .before .before .before .before in
+    let s = c .before .before .before .before .before .before .before .before .before in
     c .refused2 .ensures
-    ∙ deliver-refused (rulesOf (s .args .t)) (s .args .n) (s .args .a) (s .args .e) (c .before .before .before .before .before .before .before .before .before .on-deliver .result) (c .before .before .before .before .before .before .before .before .before .on-deliver .ensures) (c .before .before .before .on-msg .result) (c .before .before .before .on-msg .ensures (s .args .e .dst))
+    ∙ deliver-refused (rulesOf (s .args .t)) (s .args .n) (s .args .a) (s .args .e) (s .args .s) (s .pre .5) (c .before .before .before .on-msg .result) (c .before .before .before .on-msg .ensures (s .args .e .dst))
     (sym (c .before .before .before .before .before .before .before .before .is-done .ensures) ∙ not-false _ (c .before .before .before .before .before .before .before .if1 .left)) (sym (c .before .before .is-done2 .ensures) ∙ not-true _ (c .before .if2 .taken))
 
 finish-requires : tie.Need-finish-requires
 finish-requires c κs =
-    let s = c .before .before .before .before .before .before .before .before .before .before in
+    let s = c .before .before .before .before .before .before .before .before .before in
     let rs = rulesOf (s .args .t) in (
-      deliver-ready-after rs (s .args .n) (s .args .a) (s .args .e) (c .before .before .before .before .before .before .before .before .before .on-deliver .result) (c .before .before .before .before .before .before .before .before .before .on-deliver .ensures) (c .before .before .before .on-msg .result) (c .before .before .before .on-msg .ensures (s .args .e .dst))
+      deliver-ready-after rs (s .args .n) (s .args .a) (s .args .e) (s .args .s) (s .pre .5) (c .before .before .before .on-msg .result) (c .before .before .before .on-msg .ensures (s .args .e .dst))
           (sym (c .before .before .before .before .before .before .before .before .is-done .ensures) ∙ not-false _ (c .before .before .before .before .before .before .before .if1 .left)) (s .pre .0),
       s .pre .1,
-      deliver-told rs (s .args .n) (s .args .a) (s .args .e) (c .before .before .before .before .before .before .before .before .before .on-deliver .result) (c .before .before .before .before .before .before .before .before .before .on-deliver .ensures) (c .before .before .before .on-msg .result) (c .before .before .before .on-msg .ensures (s .args .e .dst))
+      deliver-told rs (s .args .n) (s .args .a) (s .args .e) (s .args .s) (s .pre .5) (c .before .before .before .on-msg .result) (c .before .before .before .on-msg .ensures (s .args .e .dst))
           (sym (c .before .before .before .before .before .before .before .before .is-done .ensures) ∙ not-false _ (c .before .before .before .before .before .before .before .if1 .left)) (sym (c .before .before .is-done2 .ensures) ∙ not-false _ (c .before .if2 .left)) .laid,
     )
 
@@ -53,17 +50,16 @@ back-requires c κs = search needs
 
 returns-3 : tie.Need-returns-3
 returns-3 c =
-    let s = c .before .before .before .before .before .before .before .before .before .before .before .before in
+    let s = c .before .before .before .before .before .before .before .before .before .before .before in
     let rs = rulesOf (s .args .t) in
     c .back .ensures
-    ∙ deliver-goes rs (s .args .n) (s .args .a) (s .args .e) (c .before .before .before .before .before .before .before .before .before .before .before .on-deliver .result) (c .before .before .before .before .before .before .before .before .before .before .before .on-deliver .ensures) (c .before .before .before .before .before .on-msg .result) (c .before .before .before .before .before .on-msg .ensures (s .args .e .dst))
+    ∙ deliver-goes rs (s .args .n) (s .args .a) (s .args .e) (s .args .s) (s .pre .5) (c .before .before .before .before .before .on-msg .result) (c .before .before .before .before .before .on-msg .ensures (s .args .e .dst))
     (sym (c .before .before .before .before .before .before .before .before .before .before .is-done .ensures) ∙ not-false _ (c .before .before .before .before .before .before .before .before .before .if1 .left)) (s .pre .0) (sym (c .before .before .before .before .is-done2 .ensures) ∙ not-false _ (c .before .before .before .if2 .left)) (c .before .finish .result) (c .before .finish .ensures rs)
 
 pub deliver-spec : {M : Type 1} → statement M
 deliver-spec =
     tie.close
     (tie.spec
-    on-deliver-requires
     is-done-requires
     refused-requires
     returns
