@@ -16,12 +16,13 @@ use Rattle.network.specs.Views.{netView, networkOf}
 use Rattle.inner.specs.declared.Table.{Table}
 use Rattle.inner.specs.Views.{rulesOf}
 use Rattle.actor.specs.declared.Actor.{Actor}
-use Rattle.actor.specs.Views.{actorAs, zeroActor}
+use Rattle.actor.specs.Views.{actorAs, actorLaid, zeroActor}
+use Rattle.actor.proofs.Laws.{actor-kept, fine-laid-out}
 use Rattle.parts.specs.Parts.{Part, partOf, putBack}
 use Rattle.steps.specs.Views.{partView}
 use Rattle.system.specs.declared.System.{System}
 use Rattle.system.specs.Views.{sysView, systemOf, tableFor, zeroTable, zeroRule}
-use Rattle.system.proofs.Laws.{counted, actor-view}
+use Rattle.system.proofs.Laws.{formed-of, counted, seat-ok, actor-at, actor-view}
 use Rattle.system_parts.specs.Views.{Ready}
 
 -- ---- one element of a list made of another
@@ -59,6 +60,10 @@ module _ (s : System) (r : Ready s) where
 
     abbrev actor : Actor
     actor = getD (s .actors) (i .0) zeroActor
+
+    -- Its unused places are zero.
+    pub laid-at : actorLaid actor ≡ true
+    laid-at = ap actorLaid (actor-at s (r .laid) (r .formed) i h) ∙ fine-laid-out (length (m .actors)) (actorAs (rules.actor m i)) (actor-kept (length (m .actors)) (rules.actor m i) (seat-ok s (r .laid) (r .formed) i h) (formed-of m (r .formed) .few))
 
     -- The part that the core is given.
     pub part-at : partView (rulesOf table) (s .network) actor ≡ partOf i m
