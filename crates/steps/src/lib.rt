@@ -288,12 +288,18 @@ pub fn crash(a: Actor) -> Actor
     mark(a, true, t)
 }
 
+fn is_live(a: Actor) -> bool
+    ensures { λ r. ⌜ r ≡ not (a .crashed) ⌝ }
+{
+    !a.crashed
+}
+
 // A live actor is refused; a crashed one starts on what is stored.
 pub fn recover(i: Id, n: Network, a: Actor, t: Table) -> Touched
     requires { ⌜ NetReady n × ActorLaid a × (tableOk t ≡ true) × (storedLaid (a .stored) ≡ true) ⌝ }
     ensures { λ x. ⌜ x ≡ touchedOf n a (recoverPart base i (partView (rulesOf t) n a)) ⌝ }
 {
-    if !a.crashed {
+    if is_live(a) {
         return refused(Answer::Live, n, a);
     }
     let ts = a.timers;

@@ -1,5 +1,5 @@
 use borrow.Author.Tests.{not-true, not-false}
-use mathlib.Core.Path.{ap, _∙_}
+use mathlib.Core.Path.{sym, ap, _∙_}
 use mathlib.Core.Bool.{false}
 use Rattle.inner.specs.Views.{rulesOf}
 use Rattle.durable.specs.Views.{storedLaid}
@@ -9,13 +9,16 @@ use borrow.Author.Needs.{needs}
 use Rattle.steps.proofs.recover.Statement.{statement}
 use Rattle.steps.proofs.recover.Tie as tie
 
+is-live-requires : tie.Need-is-live-requires
+is-live-requires c κs = search needs
+
 refused-requires : tie.Need-refused-requires
 refused-requires c κs = search needs
 
 returns : tie.Need-returns
 returns c =
     let s = c .before .before .before in
-    c .refused .ensures ∙ recover-live (rulesOf (s .args .t)) (s .args .i) (s .args .n) (s .args .a) (not-true _ (c .before .if1 .taken))
+    c .refused .ensures ∙ recover-live (rulesOf (s .args .t)) (s .args .i) (s .args .n) (s .args .a) (not-true _ (sym (c .before .before .is-live .ensures) ∙ c .before .if1 .taken))
 
 mark-requires : tie.Need-mark-requires
 mark-requires c κs = search needs
@@ -38,9 +41,9 @@ returns-2 c =
     let rs = rulesOf (s .args .t) in
     c .back .ensures
     ∙ ap (backTo (s .args .n) (s .args .a)) (c .before .wake .ensures)
-    ∙ recover-wakes rs (s .args .i) (s .args .n) (s .args .a) _ (c .before .before .mark .ensures) (not-false _ (c .before .before .before .before .if1 .left))
+    ∙ recover-wakes rs (s .args .i) (s .args .n) (s .args .a) _ (c .before .before .mark .ensures) (not-false _ (sym (c .before .before .before .before .before .is-live .ensures) ∙ c .before .before .before .before .if1 .left))
 
 pub recover-spec : {M : Type 1} → statement M
 recover-spec =
     tie.close
-    (tie.spec refused-requires returns mark-requires wake-requires back-requires returns-2)
+    (tie.spec is-live-requires refused-requires returns mark-requires wake-requires back-requires returns-2)
