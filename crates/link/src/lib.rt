@@ -50,6 +50,12 @@ pub struct Did {
     pub commands: Commands,
 }
 
+// The inner actor after an event: whether it ignored it, and its state.
+struct Settled {
+    ignored: bool,
+    state: u8,
+}
+
 // ---- handlers
 // A refusal: the link is the one that came.
 fn refuse(l: Link, answer: Answer) -> Did
@@ -64,15 +70,23 @@ fn refuse(l: Link, answer: Answer) -> Did
     }
 }
 
-// By the touched mark and the commands, never by comparing states.
-fn is_ignored(r: Reaction) -> bool
+// What an event made of the inner actor, which was in state `old` and gave r. The touched mark decides, as in the Rust (owned
+// or still borrowed), and the states are not compared: an actor that writes its old state again has not ignored the event.
+fn settle(old: u8, r: Reaction) -> Settled
     requires { ⌜ r .used ≤ 4 ⌝ }
-    ensures { λ x. ⌜ x ≡ ignored (replyOf r) ⌝ }
+    ensures { λ x. ⌜ x ≡ record { ignored = ignored (replyOf r); state = choose (r .touched) (r .state) old } ⌝ }
 {
+    let new = r.state;
     if r.touched {
-        return false;
+        return Settled {
+            ignored: false,
+            state: new,
+        };
     }
-    r.used == 0
+    Settled {
+        ignored: r.used == 0,
+        state: old,
+    }
 }
 
 // Set Network, then the inner actor's commands.
@@ -130,16 +144,6 @@ fn ack_only(l: Link, s: Id, n: Number) -> Did
     }
 }
 
-// The inner state after a message was taken.
-fn next_state(touched: bool, next: u8, state: u8) -> u8
-    ensures { λ x. ⌜ x ≡ choose touched next state ⌝ }
-{
-    if touched {
-        return next;
-    }
-    state
-}
-
 // Message n of s is taken: its Ack first, the output, and the durable part saved.
 fn take_message(l: Link, s: Id, n: Number, r: Reaction) -> Did
     requires { ⌜ Whole (l .durable) × (s .0 < 8) × (r .used ≤ 4) ⌝ }
@@ -157,12 +161,12 @@ fn take_message(l: Link, s: Id, n: Number, r: Reaction) -> Did
     let e = o.durable;
     let out = o.commands;
     let more = push(out, LinkCommand::Save);
-    let state = next_state(r.touched, r.state, l.state);
+    let now = settle(l.state, r);
     Did {
         answer: Answer::Done,
         link: Link {
             durable: e,
-            state: state,
+            state: now.state,
         },
         touched: true,
         commands: more,
@@ -174,7 +178,8 @@ fn handed(l: Link, s: Id, n: Number, r: Reaction) -> Did
     requires { ⌜ Whole (l .durable) × (s .0 < 8) × (r .used ≤ 4) ⌝ }
     ensures { λ x. ⌜ ((i : Id) (p : Payload) → x ≡ didAs l (rules.handing (base .limits) i (linkView l) s n p (replyOf r))) ⌝ }
 {
-    if is_ignored(r) {
+    let now = settle(l.state, r);
+    if now.ignored {
         return ack_only(l, s, n);
     }
     take_message(l, s, n, r)
@@ -300,7 +305,8 @@ pub fn on_timeout(table: Table, link: Link, timer: u8) -> Did
         return resend(link);
     }
     let r = react(table, 3, link.state, Id(0), timer as u32);
-    if is_ignored(r) {
+    let now = settle(link.state, r);
+    if now.ignored {
         return idle(link);
     }
     timed(link, r)

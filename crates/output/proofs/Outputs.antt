@@ -8,12 +8,13 @@ use mathlib.Core.List.{List, [], _∷_, _++_, map, map-append, append-assoc, app
 use lib.ListN.{length, take, set, length-map, length-append, length-take}
 use lib.Seq.{take-at}
 use lib.Dec.{ltb, eqb}
-use borrow.Author.Tests.{ltb-true, leb-true, lt-ltb, le-ltb, ne-eqb}
+use borrow.Author.Tests.{ltb-true, leb-true, lt-ltb, ne-eqb}
 use Rattle.lists.specs.Lists.{choose, any, all, pad}
 use Rattle.lists.proofs.Members.{every-cons}
 use Rattle.lists.proofs.Places.{append-pad}
 use Rattle.lists.proofs.Walks.{all-map, any-not-all, map-back}
 use Rattle.types.specs.declared.Answer.{Answer}
+use Rattle.types.specs.declared.Answer.the-variants.{NumbersUsedUp, PendingFull}
 use Rattle.types.specs.declared.Id.{Id}
 use Rattle.types.specs.declared.Payload.{Payload}
 use Rattle.types.specs.declared.Message.the-variants.{Deliver}
@@ -21,7 +22,7 @@ use Rattle.types.specs.declared.InnerCommand.{InnerCommand}
 use Rattle.types.specs.declared.InnerCommand.the-variants as inner
 use Rattle.types.specs.Answers.{answerOf}
 use Rattle.rules.specs.Outcome.{Outcome, done, refused, bind, guard, Limits, base}
-use Rattle.rules.specs.Inner.{Reply, ignored}
+use Rattle.rules.specs.Inner.{ignored}
 use Rattle.rules.specs.Link as rules
 use Rattle.rules.proofs.Laws.{Holds, holds-done, holds-map, holds-bind, holds-guard}
 use Rattle.inner.specs.declared.InnerSlot.{InnerSlot}
@@ -35,6 +36,9 @@ use Rattle.output.specs.declared.LinkCommand.the-variants.{Set, Save}
 use Rattle.output.specs.declared.CommandSlot.{CommandSlot}
 use Rattle.output.specs.declared.Commands.{Commands}
 use Rattle.output.specs.declared.Output.{Output}
+use Rattle.refusals.specs.declared.Refusal.{Refusal}
+use Rattle.refusals.specs.declared.Refusal.the-variants.{Nothing, Because}
+use Rattle.refusals.specs.Views.{firstOf}
 use Rattle.output.specs.Views.{slot, commandsIn, commandsOf, commandAs, outputAs, Whole}
 
 -- ---- the commands that the struct holds
@@ -116,6 +120,26 @@ pub output-is : (g : Bool) (a : Answer) (d e : Durable) (cs es : Commands) → d
     → _≡_ {A = Output} (record { going = g; answer = a; durable = d; commands = cs }) (record { going = g; answer = a; durable = e; commands = es })
 output-is g a d e cs es p q = λ i. record { going = g; answer = a; durable = p i; commands = q i }
 
+-- ---- why a Send is refused, by its two tests
+abbrev pub sendRefusal : Bool → Bool → Refusal
+sendRefusal a b = firstOf (choose a Nothing (Because NumbersUsedUp)) (choose b Nothing (Because PendingFull))
+
+both-pass : (a b : Bool) → sendRefusal a b ≡ Nothing → (a ≡ true) × (b ≡ true)
+unfolding choose
+both-pass true true e = (refl, refl)
+both-pass true false e = let z : _≡_ {A = ℕ} 0 1 = cc in absurd (omega arith)
+both-pass false b e = let z : _≡_ {A = ℕ} 0 1 = cc in absurd (omega arith)
+
+pub refusal-none : (n m u v : ℕ) → sendRefusal (ltb n m) (ltb u v) ≡ Nothing → (n < m) × (u < v)
+refusal-none n m u v e = let t = both-pass (ltb n m) (ltb u v) e in (ltb-true n m (t .0), ltb-true u v (t .1))
+
+refusal-stops : (cs : List LinkCommand) (a b : Bool) (x : Answer) (m : Outcome rules.Output) → sendRefusal a b ≡ Because x
+    → _≡_ {A = Output} (record { going = false; answer = x; durable = durableAs rules.fresh; commands = commandsOf [] }) (outputAs cs (guard a 6 (guard b 7 m)))
+unfolding choose guard answerOf
+refusal-stops cs true true x m e = let z : _≡_ {A = ℕ} 0 1 = cc in absurd (omega arith)
+refusal-stops cs true false x m e = let f : x ≡ PendingFull = cc in rw f
+refusal-stops cs false b x m e = let f : x ≡ NumbersUsedUp = cc in rw f
+
 -- ---- one command, then the others
 joined : rules.Output → rules.Output → Outcome rules.Output
 joined o p = done (record { durable = p .durable; commands = o .commands ++ p .commands; events = o .events ++ p .events })
@@ -175,13 +199,10 @@ module _ (c : Limits) (i : Id) where
 
   -- ---- an inner Send: 6, 7, or one more message
   module _ (d : rules.Durable) (r : Id) (p : Payload) where
-    pub send-six : c .numbers ≤ d .next .0 → rules.process c i d (inner.Send r p ∷ []) ≡ refused 6
-    unfolding rules.process guard
-    send-six h = rw (le-ltb (d .next .0) (c .numbers) h)
-
-    pub send-seven : d .next .0 < c .numbers → c .pending ≤ length (d .pending) → rules.process c i d (inner.Send r p ∷ []) ≡ refused 7
-    unfolding rules.process guard
-    send-seven h k = rw (lt-ltb (d .next .0) (c .numbers) h, le-ltb (length (d .pending)) (c .pending) k)
+    pub send-stops : (cs : List LinkCommand) (x : Answer) → sendRefusal (ltb (d .next .0) (c .numbers)) (ltb (length (d .pending)) (c .pending)) ≡ Because x
+        → _≡_ {A = Output} (record { going = false; answer = x; durable = durableAs rules.fresh; commands = commandsOf [] }) (outputAs cs (rules.process c i d (inner.Send r p ∷ [])))
+    unfolding rules.process
+    send-stops cs x e = refusal-stops cs _ _ x _ e
 
     pub send-goes : d .next .0 < c .numbers → length (d .pending) < c .pending
         → rules.process c i d (inner.Send r p ∷ []) ≡ done (record { durable = rules.posting r p d; commands = rules.Send r (Deliver (d .next) p) ∷ []; events = rules.Sent i (rules.numbered d r p) ∷ [] })
@@ -305,7 +326,3 @@ told-none (x ∷ l) (suc u) h = sym (ne-eqb (suc u) 0 (λ e. omega arith))
 pub ignored-is : (r : Reaction) → r .used ≤ length (r .commands) → ignored (replyOf r) ≡ (not (r .touched) && eqb (r .used) 0)
 unfolding ignored
 ignored-is r h = ap (λ (b : Bool). not (r .touched) && b) (told-none (r .commands) (r .used) h)
-
-pub touched-not-ignored : (y : Reply) → y .touched ≡ true → false ≡ ignored y
-unfolding ignored
-touched-not-ignored y e = rw e

@@ -4,6 +4,9 @@ use durable::fresh_durable;
 use durable::post;
 use durable::save_value;
 use inner::Reaction;
+use refusals::Refusal;
+use refusals::first_refusal;
+use refusals::refused_unless;
 use types::Answer;
 use types::Id;
 use types::InnerCommand;
@@ -107,15 +110,17 @@ fn send_one(d: Durable, cs: Commands, r: Id, p: Payload) -> Output
     ensures { λ x. ⌜ ((i : Id) → x ≡ outputAs (commandsIn cs) (rules.process (base .limits) i (durableView d) (inner.Send r p ∷ []))) ⌝ }
 {
     let next = d.next;
-    if 18446744073709551615 <= next.0 {
-        return stopped(Answer::NumbersUsedUp);
+    let six = refused_unless(next.0 < 18446744073709551615, Answer::NumbersUsedUp);
+    let seven = refused_unless(d.pending.used < 32, Answer::PendingFull);
+    let refusal = first_refusal(six, seven);
+    match refusal {
+        Refusal::Because(answer) => stopped(answer),
+        Refusal::Nothing => {
+            let posted = post(d, r, p);
+            let more = push(cs, LinkCommand::Send(r, Message::Deliver(next, p)));
+            going_on(posted, more)
+        }
     }
-    if 32 <= d.pending.used {
-        return stopped(Answer::PendingFull);
-    }
-    let posted = post(d, r, p);
-    let more = push(cs, LinkCommand::Send(r, Message::Deliver(next, p)));
-    going_on(posted, more)
 }
 
 // One command of the inner actor.

@@ -6,6 +6,7 @@ use Rattle.output.proofs.Outputs.{whole-of}
 use Rattle.rules.specs.Outcome.{base}
 use Rattle.rules.specs.Inner.{ignored}
 use Rattle.inner.specs.Views.{rulesOf}
+use Rattle.link.specs.declared.Settled.{Settled}
 use Rattle.link.specs.Views.{linkView, didAs}
 use Rattle.link.proofs.Handlers.{timeout-network, timeout-idle, timeout-goes, react-few, react-back}
 use borrow.Author.Needs.{needs}
@@ -29,8 +30,8 @@ returns c = λ i. let a = c .before .before .args in c .resend .ensures ∙ ap (
 react-requires : tie.Need-react-requires
 react-requires c κs = search needs
 
-is-ignored-requires : tie.Need-is-ignored-requires
-is-ignored-requires c κs = let a = c .before .before in react-few (a .args .table) (a .pre .0) _ _ _ _ _ (c .react .ensures)
+settle-requires : tie.Need-settle-requires
+settle-requires c κs = let a = c .before .before in react-few (a .args .table) (a .pre .0) _ _ _ _ _ (c .react .ensures)
 
 idle-requires : tie.Need-idle-requires
 idle-requires c κs = whole (c .before .before .before .before)
@@ -40,7 +41,7 @@ returns-2 c = λ i.
     let a = c .before .before .before .before .before in
     let b = a .args in
     let e = react-back (b .table) (a .pre .0) _ _ _ _ _ (c .before .before .before .react .ensures) in
-    c .idle .ensures ∙ ap (didAs (b .link)) (timeout-idle (base .limits) i (linkView (b .link)) (rulesOf (b .table)) (b .timer) (c .before .before .before .before .if1 .left) (sym (ap ignored e) ∙ sym (c .before .before .is-ignored .ensures) ∙ c .before .if2 .taken))
+    c .idle .ensures ∙ ap (didAs (b .link)) (timeout-idle (base .limits) i (linkView (b .link)) (rulesOf (b .table)) (b .timer) (c .before .before .before .before .if1 .left) (sym (ap ignored e) ∙ sym (ap (λ (z : Settled). z .ignored) (c .before .before .settle .ensures)) ∙ c .before .if2 .taken))
 
 timed-requires : tie.Need-timed-requires
 timed-requires c κs =
@@ -52,7 +53,7 @@ returns-3 c = λ i.
     let a = c .before .before .before .before .before in
     let b = a .args in
     let e = react-back (b .table) (a .pre .0) _ _ _ _ _ (c .before .before .before .react .ensures) in
-    c .timed .ensures i ∙ ap (didAs (b .link)) (timeout-goes (base .limits) i (linkView (b .link)) (rulesOf (b .table)) (b .timer) _ (c .before .before .before .before .if1 .left) e (sym (c .before .before .is-ignored .ensures) ∙ c .before .if2 .left))
+    c .timed .ensures i ∙ ap (didAs (b .link)) (timeout-goes (base .limits) i (linkView (b .link)) (rulesOf (b .table)) (b .timer) _ (c .before .before .before .before .if1 .left) e (sym (ap (λ (z : Settled). z .ignored) (c .before .before .settle .ensures)) ∙ c .before .if2 .left))
 
 pub on-timeout-spec : {M : Type 1} → statement M
 on-timeout-spec =
@@ -61,7 +62,7 @@ on-timeout-spec =
     resend-requires
     returns
     react-requires
-    is-ignored-requires
+    settle-requires
     idle-requires
     returns-2
     timed-requires

@@ -1,5 +1,5 @@
 use borrow.Author.Tests.{not-true, not-false}
-use mathlib.Core.Path.{_≡_, refl, _∙_}
+use mathlib.Core.Path.{_≡_, refl, ap, _∙_}
 use mathlib.Core.Bool.{true}
 use mathlib.Core.List.{[], _∷_}
 use Rattle.types.specs.Answers.{answerOf}
@@ -8,6 +8,7 @@ use Rattle.rules.specs.Link as rules
 use Rattle.inner.specs.Views.{replyOf}
 use Rattle.durable.specs.Views.{durableView}
 use Rattle.output.specs.Views.{commandAs}
+use Rattle.link.specs.declared.Settled.{Settled}
 use Rattle.link.specs.Views.{linkView}
 use Rattle.output.proofs.Outputs.{went}
 use Rattle.link.proofs.Handlers.{did-is, link-is}
@@ -60,8 +61,8 @@ push-requires-2 c κs =
     let u = z .few in
     (z .same, omega arith)
 
-next-state-requires : tie.Need-next-state-requires
-next-state-requires c κs = search needs
+settle-requires : tie.Need-settle-requires
+settle-requires c κs = search needs
 
 returns-2 : tie.Need-returns-2
 unfolding answerOf rules.takenBy commandAs
@@ -70,7 +71,7 @@ returns-2 c = λ i p.
     let y = c .before .before .before .before .before .before .output-of .result in
     let e = taking-seen i (a .l) (a .s) (a .n) (a .r) _ _ y (c .before .before .before .before .before .before .before .before .before .take-number .ensures) (c .before .before .before .before .before .before .output-of .ensures i) in
     let w = went _ _ y e (not-false (y .going) (c .before .before .before .before .if1 .left)) in
-    did-is _ _ _ _ _ _ _ refl (link-is _ _ _ _ (w .durable) (c .next-state .ensures))
+    did-is _ _ _ _ _ _ _ refl (link-is _ _ _ _ (w .durable) (ap (λ (z : Settled). z .state) (c .settle .ensures)))
     (saved-last (Send (a .s) (Ack (a .n)) ∷ []) _ _ (w .out .commands) (w .out .durable) (after _ (Send (a .s) (Ack (a .n)) ∷ []) _ (w .out .commands) (w .commands) (first-in _ _ (Send (a .s) (Ack (a .n))) (c .before .before .before .before .before .before .before .before .no-commands .ensures) (c .before .before .before .before .before .before .before .push .ensures))) (c .before .push2 .ensures))
     ∙ did-goes _ _ y e _ (rules.takenBy i (linkView (a .l)) (a .s) (a .n) p (replyOf (a .r))) w
 
@@ -85,5 +86,5 @@ take-message-spec =
     refuse-requires
     returns
     push-requires-2
-    next-state-requires
+    settle-requires
     returns-2)
