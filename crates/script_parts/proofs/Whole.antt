@@ -187,7 +187,7 @@ past-placed f xs p bad {a} {zs} {r} k h e =
     let z : _≡_ {A = ℕ} 0 1 = cc in absurd (omega arith)
 
 -- a record that is read ends after its place
-past : {A : Type 0} (f : Form A) (xs : List ℕ) (p : ℕ) {a : A} {zs : List ℕ} {r : ℕ} → Sized xs f → one f xs p ≡ read a zs r → (p < r) × (r ≤ p + length xs)
+pub past : {A : Type 0} (f : Form A) (xs : List ℕ) (p : ℕ) {a : A} {zs : List ℕ} {r : ℕ} → Sized xs f → one f xs p ≡ read a zs r → (p < r) × (r ≤ p + length xs)
 unfolding one
 past f xs p k e = past-placed f xs p (recordOf f xs) k refl e
 

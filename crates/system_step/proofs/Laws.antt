@@ -29,6 +29,7 @@ use Rattle.actor.specs.declared.Actor.{Actor}
 use Rattle.actor.specs.Views.{isDone, actorAs, zeroActor, actorLaid}
 use Rattle.parts.specs.Parts.{Part, partOf, putBack, target, seat, actPart, systems, mapped}
 use Rattle.parts.proofs.Outcomes.{guarded}
+use Rattle.parts.proofs.Laws.{set-get}
 use Rattle.parts.proofs.Acts.{act-parts}
 use Rattle.parts.proofs.Answers.{on-act}
 use Rattle.parts.proofs.Kept.{Ruled, act-ruled}
@@ -42,7 +43,7 @@ use Rattle.system.proofs.Laws.{formed-of, counted, net-ready, actor-is-laid, ta
 use Rattle.system_parts.specs.declared.Answered.{Answered}
 use Rattle.system_parts.specs.Views.{Ready, answeredOf}
 use Rattle.system_parts.proofs.Laws.{part-at, put-system, laid-at}
-use Rattle.system_step.specs.Views.{stepOf, putTouched}
+use Rattle.system_step.specs.Views.{stepOf, putTouched, writtenBack}
 
 -- An element that is there, whatever the default.
 get-same : {A : Type 0} (l : List A) (i : ℕ) (d e : A) → i < length l → getD l i d ≡ getD l i e
@@ -104,17 +105,29 @@ module _ (s : System) (r : Ready s) (a : Action) where
   stepped (done p) x e k z = ap (putTouched s (i .0)) e ∙ (let w = put-system s r i inside p (z .value p refl .rules) in λ j. record { answer = Done; system = w j })
   stepped (refused n) x e k z = ap (putTouched s (i .0)) e ∙ rw (not-true (isDone (answerOf n)) k)
 
+  abbrev outcome : Outcome Part
+  outcome = actPart base (length (m .actors)) a (partOf i m)
+
+  same-outcome : actPart base (s .count) a (partView (rulesOf table) (s .network) actor) ≡ outcome
+  same-outcome = let c = counted s (r .laid) (r .formed) in λ j. actPart base (c j) a (part-at s r i inside j)
+
+  ruled : Holds (Ruled (rules.actor m i .rules)) outcome
+  unfolding partOf
+  ruled = act-ruled (rules.actor m i .rules) base (length (m .actors)) a (partOf i m) (record { rules = refl })
+
   -- It is the rules' action.
-  pub acted : (x : Touched) → x ≡ touchedOf (s .network) actor (actPart base (s .count) a (partView (rulesOf table) (s .network) actor)) → putTouched s (i .0) x ≡ answeredOf s (systems (rules.act base m a))
-  unfolding answerOf rules.known partOf
-  acted x e =
-      let n = length (m .actors) in
-      let c : s .count ≡ n = counted s (r .laid) (r .formed) in
-      let o = actPart base n a (partOf i m) in
-      let f : x ≡ touchedOf (s .network) actor o = e ∙ (λ j. touchedOf (s .network) actor (actPart base (c j) a (part-at s r i inside j))) in
+  as-rules : answeredOf s (mapped (putBack i m) outcome) ≡ answeredOf s (systems (rules.act base m a))
+  unfolding rules.known
+  as-rules =
+      let c = counted s (r .laid) (r .formed) in
       let k : rules.known m (target a) ≡ true → i ≡ target a = λ h. λ j. record { 0 = seat-target (s .count) a (ap (ltb (target a .0)) c ∙ h) j } in
-      stepped o x f (on-act refusal refl refl refl refl refl refl refl refl base n a (partOf i m)) (act-ruled (rules.actor m i .rules) base n a (partOf i m) (record { rules = refl }))
-      ∙ ap (answeredOf s) (sym (act-parts base m i a k))
+      ap (answeredOf s) (sym (act-parts base m i a k))
+
+  -- What the core answered, written back whatever the answer: a refusal's network and actor are those that came.
+  kept : (o : Outcome Part) (x : Touched) → x ≡ touchedOf (s .network) actor o → Holds (Ruled (rules.actor m i .rules)) o → writtenBack s (i .0) x ≡ answeredOf s (mapped (putBack i m) o)
+  unfolding mapped
+  kept (done p) x e z = ap (writtenBack s (i .0)) e ∙ (let w = put-system s r i inside p (z .value p refl .rules) in λ j. record { answer = answerOf 0; system = w j })
+  kept (refused n) x e z = ap (writtenBack s (i .0)) e ∙ (let w = set-get (s .actors) (i .0) zeroActor in λ j. record { answer = answerOf n; system = record { count = s .count; network = s .network; actors = w j; tables = s .tables } })
 
   -- ---- as the code reads them: whatever stands beyond the arrays
   module _ (k : ℕ) (here : k ≡ seat (s .count) a) (d : Actor) (e : Table) where
@@ -135,12 +148,20 @@ module _ (s : System) (r : Ready s) (a : Action) where
     pub part-ready : PartReady (s .count) (s .network) (getD (s .actors) k d) (getD (s .tables) k e)
     part-ready = rw (same-actor, same-table) part-there
 
-    -- What it answers, put back, is the rules' action.
-    pub act-done : (x : Touched) → x ≡ touchedOf (s .network) (getD (s .actors) k d) (actPart base (s .count) a (partView (rulesOf (getD (s .tables) k e)) (s .network) (getD (s .actors) k d)))
-        → putTouched s k x ≡ answeredOf s (systems (rules.act base m a))
-    act-done x f =
-        ap (λ (j : ℕ). putTouched s j x) here
-        ∙ acted x (f ∙ (λ j. touchedOf (s .network) (same-actor j) (actPart base (s .count) a (partView (rulesOf (same-table j)) (s .network) (same-actor j)))))
+    -- What it answers, put back or written back, is the rules' action.
+    module _ (x : Touched) (f : x ≡ touchedOf (s .network) (getD (s .actors) k d) (actPart base (s .count) a (partView (rulesOf (getD (s .tables) k e)) (s .network) (getD (s .actors) k d)))) where
+      here-touched : x ≡ touchedOf (s .network) actor outcome
+      here-touched = f ∙ (λ j. touchedOf (s .network) (same-actor j) (actPart base (s .count) a (partView (rulesOf (same-table j)) (s .network) (same-actor j)))) ∙ ap (touchedOf (s .network) actor) same-outcome
+
+      pub act-done : putTouched s k x ≡ answeredOf s (systems (rules.act base m a))
+      unfolding answerOf
+      act-done =
+          ap (λ (j : ℕ). putTouched s j x) here
+          ∙ stepped outcome x here-touched (on-act refusal refl refl refl refl refl refl refl refl base (length (m .actors)) a (partOf i m)) ruled
+          ∙ as-rules
+
+      pub act-written : writtenBack s k x ≡ answeredOf s (systems (rules.act base m a))
+      act-written = ap (λ (j : ℕ). writtenBack s j x) here ∙ kept outcome x here-touched ruled ∙ as-rules
 
 -- ---- the test before the step
 refused-by : (l w : Bool) (o : Outcome rules.Next) → every (l ∷ w ∷ []) ≡ false → guard l 9 (systems (guard w 9 o)) ≡ refused 9

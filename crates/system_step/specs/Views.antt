@@ -24,3 +24,7 @@ abbrev pub putTouched : System → ℕ → Touched → Answered
 putTouched s i x = choose (isDone (x .answer))
     (record { answer = Done; system = record { count = s .count; network = x .network; actors = set (s .actors) i (x .actor); tables = s .tables } })
     (record { answer = x .answer; system = s })
+
+-- The same, whatever the answer.
+abbrev pub writtenBack : System → ℕ → Touched → Answered
+writtenBack s i x = record { answer = x .answer; system = record { count = s .count; network = x .network; actors = set (s .actors) i (x .actor); tables = s .tables } }
