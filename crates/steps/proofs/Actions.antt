@@ -47,16 +47,16 @@ use Rattle.steps.specs.Views.{partView, didView, touchedOf, backTo}
 use Rattle.steps.proofs.Laws.{refusal, back-touched}
 
 -- The answer of an outcome.
-abbrev answerIn : {A : Type 0} → Outcome A → Answer
+abbrev pub answerIn : {A : Type 0} → Outcome A → Answer
 answerIn (done a) = answerOf 0
 answerIn (refused k) = answerOf k
 
-done-of : {A : Type 0} (m : Outcome A) → Among refusal m → isDone (answerIn m) ≡ true → (a : A) × (m ≡ done a)
+pub done-of : {A : Type 0} (m : Outcome A) → Among refusal m → isDone (answerIn m) ≡ true → (a : A) × (m ≡ done a)
 unfolding Among
 done-of (done a) r e = (a, refl)
 done-of (refused k) r e = absurd (false≢true (sym (not-true _ r) ∙ e))
 
-refused-of : {A : Type 0} (m : Outcome A) → isDone (answerIn m) ≡ false → (k : ℕ) × (m ≡ refused k)
+pub refused-of : {A : Type 0} (m : Outcome A) → isDone (answerIn m) ≡ false → (k : ℕ) × (m ≡ refused k)
 unfolding answerOf
 refused-of (done a) e = absurd (true≢false e)
 refused-of (refused k) e = (k, refl)
@@ -69,7 +69,7 @@ first-refused n a m k x e h =
     let z = refused-of m (sym (ap isDone e) ∙ h) in
     (λ i. record { answer = e i; network = n; actor = a }) ∙ rw (z .1)
 
-sent-answer : (n : Network) (m : Outcome Net) → sentOf n m .answer ≡ answerIn m
+pub sent-answer : (n : Network) (m : Outcome Net) → sentOf n m .answer ≡ answerIn m
 sent-answer n (done x) = refl
 sent-answer n (refused k) = refl
 

@@ -38,7 +38,7 @@ use Rattle.system.proofs.Tables.{pad-rest, all-same, drop-in, rest-same
 use Rattle.system.proofs.Tables as tables
 use Rattle.system.proofs.Seats.{zip-length, zip-get, actors-again, tables-again, seats-formed, seats-fine, seen-again}
 
-take-in : {A : Type 0} (n : ℕ) (l : List A) (x : A) → x ∈ take n l → x ∈ l
+pub take-in : {A : Type 0} (n : ℕ) (l : List A) (x : A) → x ∈ take n l → x ∈ l
 take-in {A} n l x m = subst (λ (k : List A). x ∈ k) (take-append-drop n l) (Memᴰ·append-left (drop n l) m)
 
 get-map : {A B : Type 0} (g : A → B) (l : List A) (i : ℕ) (z : B) (d : A) → i < length l → getD (map g l) i z ≡ g (getD l i d)
@@ -47,7 +47,7 @@ get-map g (x ∷ l) ℕ.zero z d h = refl
 get-map g (x ∷ l) (suc i) z d h = get-map g l i z d (omega arith)
 
 -- Two tests that pass together are one.
-same-true : (a b : Bool) → (a ≡ true → b ≡ true) → (b ≡ true → a ≡ true) → a ≡ b
+pub same-true : (a b : Bool) → (a ≡ true → b ≡ true) → (b ≡ true → a ≡ true) → a ≡ b
 same-true true b f g = sym (f refl)
 same-true false true f g = g refl
 same-true false false f g = refl

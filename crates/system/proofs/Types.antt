@@ -43,7 +43,7 @@ pub record SystemTyped (s : System) : Type 0 where
 rule-says : (r : Rule) (u : List Val) → shadow (rule.the-field .row .own (rule.the-field .into r) u) → length (r .commands) ≡ 4
 rule-says r u g = search (needs, length-mapped)
 
-table-says : (t : Table) (u : List Val) → shadow (table.the-field .row .own (table.the-field .into t) u) → TableTyped t
+pub table-says : (t : Table) (u : List Val) → shadow (table.the-field .row .own (table.the-field .into t) u) → TableTyped t
 table-says t u g = record {
   room = search (needs, length-mapped);
   slots = each-says (rule.the-field .row .own) (rule.the-field .into) (λ r. length (r .commands) ≡ 4) rule-says (t .rules) (g .1 .1 .0 .0) (g .1 .1 .0 .1 .1);

@@ -31,8 +31,8 @@ fn actors_ok(actors: [Actor; 8], count: usize) -> bool
     true
 }
 
-// Their tables.
-fn tables_ok(tables: [Table; 8], count: usize) -> bool
+// Their tables. A start asks it too.
+pub fn tables_ok(tables: [Table; 8], count: usize) -> bool
     requires { ⌜ count ≤ 8 ⌝ }
     ensures { λ r. ⌜ r ≡ all tableOk (take count tables) ⌝ }
 {

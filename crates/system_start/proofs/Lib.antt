@@ -1,0 +1,5 @@
+pub mod Tests
+pub mod First
+pub mod Sends
+pub mod Wakes
+pub mod Laws

@@ -1,0 +1,88 @@
+-- `startable` meets its contract. Each test that fails decides, and the last one decides where the others hold.
+-- Assumes nothing.
+use mathlib.Core.Path.{_≡_, sym, ap, _∙_}
+use mathlib.Core.Bool.{and-true}
+use lib.ListN.{length}
+use borrow.Author.Tests.{le-leb, lt-leb, not-true, not-false}
+use borrow.Author.Needs.{needs}
+use Rattle.lists.specs.Lists.{all, every}
+use Rattle.lists.proofs.Places.{length-mapped}
+use Rattle.rules.specs.WellFormed.{sourceKnown}
+use Rattle.system_start.proofs.Tests.{fine-tests}
+use Rattle.system_start.proofs.startable.Statement.{statement}
+use Rattle.system_start.proofs.startable.Tie as tie
+
+returns : tie.Need-returns
+unfolding every
+returns c =
+    let a = c .before .args in
+    let n : length (a .tables) ≡ 8 = search (needs, length-mapped) in
+    sym (fine-tests (a .kind) (a .count) (a .tables) (a .given) n ∙ rw (lt-leb _ _ (c .if1 .taken)))
+
+returns-2 : tie.Need-returns-2
+unfolding every
+returns-2 c =
+    let a = c .before .before .args in
+    let n : length (a .tables) ≡ 8 = search (needs, length-mapped) in
+    sym (fine-tests (a .kind) (a .count) (a .tables) (a .given) n ∙ rw (le-leb _ _ (c .before .if1 .left), lt-leb _ _ (c .if2 .taken)))
+
+returns-3 : tie.Need-returns-3
+unfolding every
+returns-3 c =
+    let a = c .before .before .before .args in
+    let n : length (a .tables) ≡ 8 = search (needs, length-mapped) in
+    sym (fine-tests (a .kind) (a .count) (a .tables) (a .given) n ∙ rw (
+      le-leb _ _ (c .before .before .if1 .left),
+      le-leb _ _ (c .before .if2 .left),
+      lt-leb _ _ (c .if3 .taken),
+    ))
+
+tables-ok-requires : tie.Need-tables-ok-requires
+tables-ok-requires c κs = search needs
+
+returns-4 : tie.Need-returns-4
+unfolding every
+returns-4 c =
+    let a = c .before .before .before .before .before .args in
+    let n : length (a .tables) ≡ 8 = search (needs, length-mapped) in
+    sym (fine-tests (a .kind) (a .count) (a .tables) (a .given) n ∙ rw (
+      le-leb _ _ (c .before .before .before .before .if1 .left),
+      le-leb _ _ (c .before .before .before .if2 .left),
+      le-leb _ _ (c .before .before .if3 .left),
+      sym (c .before .tables-ok .ensures) ∙ not-true _ (c .if4 .taken),
+    ))
+
+in-use-requires : tie.Need-in-use-requires
+in-use-requires c κs = search needs
+
+sources-known-requires : tie.Need-sources-known-requires
+sources-known-requires c κs = search needs
+
+returns-5 : tie.Need-returns-5
+unfolding every
+returns-5 c =
+    let b = c .before .before .before in
+    let a = b .before .before .before .before .before .args in
+    let n : length (a .tables) ≡ 8 = search (needs, length-mapped) in
+    let m : length (a .given .list) ≡ 128 = search (needs, length-mapped) in
+    c .sources-known .ensures
+    ∙ ap (all (sourceKnown (a .count))) (c .before .in-use .ensures .1 (a .given .list) m)
+    ∙ sym (fine-tests (a .kind) (a .count) (a .tables) (a .given) n ∙ rw (
+      le-leb _ _ (b .before .before .before .before .if1 .left),
+      le-leb _ _ (b .before .before .before .if2 .left),
+      le-leb _ _ (b .before .before .if3 .left),
+      sym (b .before .tables-ok .ensures) ∙ not-false _ (b .if4 .left),
+    ) (and-true _))
+
+pub startable-spec : {M : Type 1} → statement M
+startable-spec =
+    tie.close
+    (tie.spec
+    returns
+    returns-2
+    returns-3
+    tables-ok-requires
+    returns-4
+    in-use-requires
+    sources-known-requires
+    returns-5)

@@ -1,0 +1,268 @@
+// The start of a system: the tests before it, the first system, the given envelopes, and the actors woken in turn.
+use actor::Actor;
+use actor::is_done;
+use actor::zero_actor;
+use durable::fresh_durable;
+use inner::Table;
+use link::Link;
+use network::Network;
+use network::Sent;
+use system::System;
+use system::blank;
+use system::zero_table;
+use system_formed::tables_ok;
+use system_parts::Answered;
+use types::Answer;
+use types::Envelope;
+use types::Id;
+use types::Kind;
+ghost use mathlib.Core.Path.{_≡_};
+ghost use mathlib.Core.List.{List, []};
+ghost use Prim.Native.Nat.{_≤_};
+ghost use lib.ListN.{length, take, replicate};
+ghost use Rattle.lists.specs.Lists.{all, pad};
+ghost use Rattle.types.specs.declared.Envelope.{Envelope};
+ghost use Rattle.rules.specs.Outcome.{base};
+ghost use Rattle.rules.specs.Network.{kindOf};
+ghost use Rattle.rules.specs.System.{unstarted};
+ghost use Rattle.rules.specs.WellFormed.{sourceKnown};
+ghost use Rattle.rules.specs.Start as rules;
+ghost use Rattle.parts.specs.Parts.{systems};
+ghost use Rattle.network.specs.Views.{netView, networkOf, NetReady, sentOf};
+ghost use Rattle.actor.specs.Views.{actorAs, zeroActor};
+ghost use Rattle.system.specs.Views.{zeroTable, sysView, systemOf};
+ghost use Rattle.system_parts.specs.Views.{answeredOf};
+ghost use Rattle.system_start.specs.Views.{givenView, startFine, emptyNet, sendAll, Awaiting, started};
+
+// The given envelopes. A count beyond 128 means all 128.
+pub struct Given {
+    pub list: [Envelope; 128],
+    pub used: usize,
+}
+
+// ---- 10, over the whole of it
+// How many of 128 places are used, whatever the count says.
+fn in_use(used: usize) -> usize
+    ensures { λ r. ⌜ (r ≤ 128) × ((l : List Envelope) → length l ≡ 128 → take r l ≡ take used l) ⌝ }
+{
+    if 128 < used {
+        return 128;
+    }
+    used
+}
+
+fn source_known(e: Envelope, count: usize) -> bool
+    ensures { λ r. ⌜ r ≡ sourceKnown count e ⌝ }
+{
+    (e.src.0 as usize) < count
+}
+
+fn sources_known(list: [Envelope; 128], used: usize, count: usize) -> bool
+    requires { ⌜ used ≤ 128 ⌝ }
+    ensures { λ r. ⌜ r ≡ all (sourceKnown count) (take used list) ⌝ }
+{
+    let mut i = 0;
+    while i < used {
+        let here = list[i];
+        if !source_known(here, count) {
+            return false;
+        }
+        i += 1;
+    }
+    true
+}
+
+// The count first: it bounds the walk over the tables.
+fn startable(kind: u8, count: usize, tables: [Table; 8], given: Given) -> bool
+    ensures { λ r. ⌜ r ≡ startFine kind count tables given ⌝ }
+{
+    if count < 1 {
+        return false;
+    }
+    if 8 < count {
+        return false;
+    }
+    if 2 < kind {
+        return false;
+    }
+    if !tables_ok(tables, count) {
+        return false;
+    }
+    let list = given.list;
+    let used = in_use(given.used);
+    sources_known(list, used, count)
+}
+
+// ---- the first system
+fn kind_of(kind: u8) -> Kind
+    ensures { λ r. ⌜ r ≡ kindOf kind ⌝ }
+{
+    match kind {
+        0 => Kind::Ordered,
+        1 => Kind::UnorderedDuplicating,
+        _ => Kind::UnorderedNonDuplicating,
+    }
+}
+
+fn fresh_actor() -> Actor
+    ensures { λ r. ⌜ r ≡ actorAs (unstarted []) ⌝ }
+{
+    let zero = zero_actor();
+    let timers = zero.timers;
+    let stored = zero.stored;
+    let durable = fresh_durable();
+    Actor {
+        crashed: false,
+        timers: timers,
+        link: Link {
+            durable: durable,
+            state: 0,
+        },
+        stored: stored,
+    }
+}
+
+// So many fresh ones, then zero ones.
+fn fresh_actors(count: usize) -> [Actor; 8]
+    requires { ⌜ count ≤ 8 ⌝ }
+    ensures { λ r. ⌜ r ≡ pad 8 zeroActor (replicate count (actorAs (unstarted []))) ⌝ }
+{
+    let zero = zero_actor();
+    let fresh = fresh_actor();
+    let mut actors = [zero; 8];
+    let mut i = 0;
+    while i < count {
+        actors[i] = fresh;
+        i += 1;
+    }
+    actors
+}
+
+// The first ones, then zero ones: a table at or above the count is not looked at.
+fn first_tables(tables: [Table; 8], count: usize) -> [Table; 8]
+    requires { ⌜ count ≤ 8 ⌝ }
+    ensures { λ r. ⌜ r ≡ pad 8 zeroTable (take count tables) ⌝ }
+{
+    let zero = zero_table();
+    let mut own = [zero; 8];
+    let mut i = 0;
+    while i < count {
+        let here = tables[i];
+        own[i] = here;
+        i += 1;
+    }
+    own
+}
+
+// ---- the given envelopes: 8
+// All of them, or the first refusal with the network that came.
+fn fill(n: Network, list: [Envelope; 128], used: usize) -> Sent
+    requires { ⌜ NetReady n × (used ≤ 128) ⌝ }
+    ensures { λ r. ⌜ r ≡ sentOf n (sendAll (base .room) (take used list) (netView n)) ⌝ }
+{
+    let mut net = n;
+    let mut i = 0;
+    while i < used {
+        let here = list[i];
+        let s = network::send(net, here);
+        let answer = s.answer;
+        if !is_done(answer) {
+            return Sent {
+                answer: answer,
+                network: n,
+            };
+        }
+        let after = s.network;
+        net = after;
+        i += 1;
+    }
+    Sent {
+        answer: Answer::Done,
+        network: net,
+    }
+}
+
+// The network of a kind with the given envelopes.
+fn filled(kind: u8, given: Given) -> Sent
+    ensures { λ r. ⌜ r ≡ sentOf (networkOf (emptyNet (kindOf kind))) (sendAll (base .room) (givenView given) (emptyNet (kindOf kind))) ⌝ }
+{
+    let k = kind_of(kind);
+    let n = network::blank(k);
+    let list = given.list;
+    let used = in_use(given.used);
+    fill(n, list, used)
+}
+
+// ---- actors 0, 1, ... each with its commands run before the next
+// All of them, or the first refusal with the blank system.
+fn wake_all(s: System) -> Answered
+    requires { ⌜ Awaiting s ⌝ }
+    ensures { λ r. ⌜ r ≡ answeredOf (systemOf rules.blank) (systems (rules.wakeAll base 0 (sysView s .actors) (sysView s))) ⌝ }
+{
+    let none = blank();
+    let count = s.count;
+    let tables = s.tables;
+    let mut network = s.network;
+    let mut actors = s.actors;
+    let mut at = 0;
+    while at < count {
+        let table = tables[at];
+        let actor = actors[at];
+        let t = steps::wake(Id(at as u8), network, actor, table);
+        let answer = t.answer;
+        if !is_done(answer) {
+            return Answered {
+                answer: answer,
+                system: none,
+            };
+        }
+        let after = t.network;
+        let woken = t.actor;
+        network = after;
+        actors[at] = woken;
+        at += 1;
+    }
+    Answered {
+        answer: Answer::Done,
+        system: System {
+            count: count,
+            network: network,
+            actors: actors,
+            tables: tables,
+        },
+    }
+}
+
+// ---- the start
+// A refused start gives the blank system.
+fn refused(answer: Answer) -> Answered
+    ensures { λ r. ⌜ r ≡ record { answer = answer; system = systemOf rules.blank } ⌝ }
+{
+    let s = blank();
+    Answered {
+        answer: answer,
+        system: s,
+    }
+}
+
+pub fn start(kind: u8, count: usize, tables: [Table; 8], given: Given) -> Answered
+    ensures { λ r. ⌜ r ≡ answeredOf (systemOf rules.blank) (started kind count tables given) ⌝ }
+{
+    if !startable(kind, count, tables, given) {
+        return refused(Answer::StartRefused);
+    }
+    let s = filled(kind, given);
+    let answer = s.answer;
+    if !is_done(answer) {
+        return refused(answer);
+    }
+    let network = s.network;
+    let actors = fresh_actors(count);
+    let own = first_tables(tables, count);
+    wake_all(System {
+        count: count,
+        network: network,
+        actors: actors,
+        tables: own,
+    })
+}
