@@ -116,7 +116,7 @@ pub record Acts (s : List ℕ) (at : ℕ) (ys : List ℕ) (q : ℕ) (l : List Ac
   pub within : r ≤ length s
   pub here : at < length s
 
-span : (s : List ℕ) (at : ℕ) {i : Item} (r : ℕ) → one (actionForm version1) (drop at s) at ≡ read i (drop r s) r → (at < r) × (r ≤ length s) × (at < length s)
+pub span : (s : List ℕ) (at : ℕ) {i : Item} (r : ℕ) → one (actionForm version1) (drop at s) at ≡ read i (drop r s) r → (at < r) × (r ≤ length s) × (at < length s)
 span s at r h =
     let w = past (actionForm version1) (drop at s) at (action-sized version1 (drop at s)) h in
     let n = length-drop at s in
