@@ -2,22 +2,31 @@
 -- Assumes nothing.
 use Prim.Native.Nat.{ℕ, suc, _+_, _≤_}
 use native.Mathlib.Omega.{arith}
-use mathlib.Core.Bool.{Bool, true, false}
-use mathlib.Core.Path.{_≡_, refl, sym, ap, _∙_}
+use mathlib.Core.Bool.{Bool, true, false, true≢false}
+use mathlib.Core.Path.{_≡_, refl, sym, ap, subst, _∙_}
 use mathlib.Core.List.{List, [], _∷_, _++_, append-assoc, append-nil}
 use lib.Dec.{leb}
 use lib.ListN.{drop}
 use lib.Seq.{drop-drop}
 use borrow.Author.Tests.{leb-true}
 use Rattle.layout.specs.Bits.{fieldAt}
-use Rattle.layout.specs.Form.{Form, done, Got, got, bad, follow, only, recordOf}
+use Rattle.layout.specs.Form.{Form, done, refuse, field, Got, got, bad, follow, only, recordOf}
 use Rattle.layout.specs.Read.{Reading, read, badAt, Reader, placed, one, onward, joining, repeat}
 use Rattle.layout.proofs.Laws.{found}
+use Rattle.types.specs.declared.Envelope.{Envelope}
 use Rattle.types.specs.declared.Rule.{Rule}
-use Rattle.rules.specs.Script.{ruleCountForm, ruleForm}
+use Rattle.rules.specs.Script.{version1, ruleCountForm, ruleForm, envelopeCountForm}
+use Rattle.rules.specs.Script as script
+use Rattle.records.specs.declared.Header.{Header}
+use Rattle.script_parts.specs.declared.HeaderAt.{HeaderAt}
+use Rattle.script_parts.specs.declared.HeaderAt.the-variants as header
+use Rattle.script_parts.specs.declared.CountAt.{CountAt}
 use Rattle.script_parts.specs.declared.CountAt.the-variants as count
 use Rattle.script_parts.specs.declared.RuleAt.{RuleAt}
-use Rattle.script_parts.specs.Views.{countAt, ruleAt}
+use Rattle.script_parts.specs.declared.TableAt.{TableAt}
+use Rattle.script_parts.specs.declared.EnvelopeAt.{EnvelopeAt}
+use Rattle.script_parts.specs.declared.EnvelopeAt.the-variants as envelope
+use Rattle.script_parts.specs.Views.{headerAt, countAt, ruleAt, tableAt, envelopeAt}
 
 -- ---- one record: what is left is what stands from the next place on
 module _ {A : Type 0} (s : List ℕ) (at : ℕ) where
@@ -45,49 +54,128 @@ module _ {A : Type 0} (s : List ℕ) (at : ℕ) where
   unfolding one
   bad-is f e = bad-placed (drop at s) (recordOf f (drop at s)) e
 
--- ---- what an answer says of the reading
+-- ---- what is left is what stands from the place on
+abbrev pub Kept : {A : Type 0} → Reader A → Type 0
+Kept {A} f = (s : List ℕ) (at : ℕ) (a : A) (ys : List ℕ) (q : ℕ) → f (drop at s) at ≡ read a ys q → ys ≡ drop q s
+
+pub kept-one : {A : Type 0} (f : Form A) → Kept (one f)
+kept-one f s at a ys q e = left-is s at f e
+
+-- ---- what an answer says of the reading: `out` is the answer to one; an answer says whether it is good, and its place
+pub record Telling {A T : Type 0} (out : Reading A → T) (good : T → Bool) (place : T → ℕ) : Type 0 where
+  pub yes : (a : A) (xs : List ℕ) (p : ℕ) → (good (out (read a xs p)) ≡ true) × (place (out (read a xs p)) ≡ p)
+  pub no : (p : ℕ) → (good (out (badAt p)) ≡ false) × (place (out (badAt p)) ≡ p)
+
+-- The value that was read to give the answer t.
+pub record Told {A T : Type 0} (out : Reading A → T) (place : T → ℕ) (f : Reader A) (s : List ℕ) (at : ℕ) (t : T) : Type 0 where
+  pub value : A
+  pub reads : f (drop at s) at ≡ read value (drop (place t) s) (place t)
+  pub told : t ≡ out (read value (drop (place t) s) (place t))
+
+module _
+    {A T : Type 0} {out : Reading A → T} {good : T → Bool} {place : T → ℕ} (k : Telling out good place) (f : Reader A) (s : List ℕ) (at : ℕ) {t : T} where
+  told-by : (m : Reading A) → f (drop at s) at ≡ m → t ≡ out m → Kept f → good t ≡ true → Told out place f s at t
+  told-by (read a ys p) h e kept g =
+      let q : p ≡ place t = sym (ap place e ∙ k .yes a ys p .1) in
+      let w : read a ys p ≡ read a (drop (place t) s) (place t) = ap (λ (zs : List ℕ). read a zs p) (kept s at a ys p h) ∙ ap (λ (j : ℕ). read a (drop j s) j) q in
+      record { value = a; reads = h ∙ w; told = e ∙ ap out w }
+  told-by (badAt p) h e kept g =
+      let z : false ≡ true = sym (ap good e ∙ k .no p .0) ∙ g in absurd (true≢false (sym z))
+
+  told-not : (m : Reading A) → t ≡ out m → good t ≡ false → m ≡ badAt (place t)
+  told-not (read a ys p) e g =
+      let z : true ≡ false = sym (ap good e ∙ k .yes a ys p .0) ∙ g in absurd (true≢false z)
+  told-not (badAt p) e g = ap badAt (sym (ap place e ∙ k .no p .1))
+
+  module _ (e : t ≡ out (f (drop at s) at)) where
+    pub told-found : Kept f → good t ≡ true → Told out place f s at t
+    told-found kept g = told-by (f (drop at s) at) refl e kept g
+
+    pub told-bad : good t ≡ false → f (drop at s) at ≡ badAt (place t)
+    told-bad g = told-not (f (drop at s) at) e g
+
+-- ---- each kind of answer
+abbrev headerGood : HeaderAt → Bool
+headerGood (header.Found x p) = true
+headerGood (header.Bad p) = false
+
+abbrev headerPlace : HeaderAt → ℕ
+headerPlace (header.Found x p) = p
+headerPlace (header.Bad p) = p
+
+header-tells : Telling headerAt headerGood headerPlace
+header-tells = record { yes = λ a xs p. (refl, refl); no = λ p. (refl, refl) }
+
+abbrev countGood : CountAt → Bool
+countGood (count.Found x p) = true
+countGood (count.Bad p) = false
+
+abbrev countPlace : CountAt → ℕ
+countPlace (count.Found x p) = p
+countPlace (count.Bad p) = p
+
+count-tells : Telling countAt countGood countPlace
+count-tells = record { yes = λ a xs p. (refl, refl); no = λ p. (refl, refl) }
+
+abbrev envelopeGood : EnvelopeAt → Bool
+envelopeGood (envelope.Found x p) = true
+envelopeGood (envelope.Bad p) = false
+
+abbrev envelopePlace : EnvelopeAt → ℕ
+envelopePlace (envelope.Found x p) = p
+envelopePlace (envelope.Bad p) = p
+
+envelope-tells : Telling envelopeAt envelopeGood envelopePlace
+envelope-tells = record { yes = λ a xs p. (refl, refl); no = λ p. (refl, refl) }
+
+rule-tells : Telling ruleAt (λ (r : RuleAt). r .found) (λ (r : RuleAt). r .next)
+rule-tells = record { yes = λ a xs p. (refl, refl); no = λ p. (refl, refl) }
+
+pub table-tells : Telling tableAt (λ (t : TableAt). t .found) (λ (t : TableAt). t .next)
+table-tells = record { yes = λ a xs p. (refl, refl); no = λ p. (refl, refl) }
+
 module _ (s : List ℕ) (at : ℕ) where
-  count-by : (f : Form ℕ) (m : Reading ℕ) {c q : ℕ} → one f (drop at s) at ≡ m → count.Found c q ≡ countAt m → m ≡ read c (drop q s) q
-  count-by f (read b ys p) {c} {q} h e =
-      let x : b ≡ c = cc in
-      let z : p ≡ q = cc in
-      let l : ys ≡ drop p s = left-is s at f h in
-      rw (l, x, z)
-  count-by f (badAt p) {c} {q} h e =
-      let z : _≡_ {A = ℕ} 0 1 = cc in absurd (omega arith)
+  pub header-found
+      : (f : Form script.Header) {x : Header} {q : ℕ} → header.Found x q ≡ headerAt (one f (drop at s) at)
+      → one f (drop at s) at ≡ read (record { kind = x .kind; actors = x .actors }) (drop q s) q
+  header-found f {x} {q} e =
+      let r = told-found header-tells (one f) s at e (kept-one f) refl in
+      let w : header.Found x q ≡ header.Found (record { kind = r .value .kind; actors = r .value .actors }) q = r .told in
+      let y : record { kind = r .value .kind; actors = r .value .actors } ≡ x = cc in
+      r .reads ∙ ap (λ (h : Header). read (record { kind = h .kind; actors = h .actors }) (drop q s) q) y
+
+  pub header-bad : (f : Form script.Header) {q : ℕ} → header.Bad q ≡ headerAt (one f (drop at s) at) → one f (drop at s) at ≡ badAt q
+  header-bad f e = told-bad header-tells (one f) s at e refl
 
   pub count-found : (f : Form ℕ) {c q : ℕ} → count.Found c q ≡ countAt (one f (drop at s) at) → one f (drop at s) at ≡ read c (drop q s) q
-  count-found f e = count-by f (one f (drop at s) at) refl e
-
-  count-not : (m : Reading ℕ) {q : ℕ} → count.Bad q ≡ countAt m → m ≡ badAt q
-  count-not (read b ys p) {q} e =
-      let z : _≡_ {A = ℕ} 0 1 = cc in absurd (omega arith)
-  count-not (badAt p) {q} e =
-      let z : p ≡ q = cc in ap badAt z
+  count-found f {c} {q} e =
+      let r = told-found count-tells (one f) s at e (kept-one f) refl in
+      let w : count.Found c q ≡ count.Found (r .value) q = r .told in
+      let y : r .value ≡ c = cc in
+      r .reads ∙ ap (λ (x : ℕ). read x (drop q s) q) y
 
   pub count-bad : (f : Form ℕ) {q : ℕ} → count.Bad q ≡ countAt (one f (drop at s) at) → one f (drop at s) at ≡ badAt q
-  count-bad f e = count-not (one f (drop at s) at) e
+  count-bad f e = told-bad count-tells (one f) s at e refl
 
-  rule-by : (m : Reading Rule) {r : RuleAt} → one ruleForm (drop at s) at ≡ m → r ≡ ruleAt m → r .found ≡ true → m ≡ read (r .rule) (drop (r .next) s) (r .next)
-  rule-by (read b ys p) {r} h e t =
-      let l : ys ≡ drop p s = left-is s at ruleForm h in rw (e, l)
-  rule-by (badAt p) {r} h e t =
-      let f : r .found ≡ false = ap (λ (x : RuleAt). x .found) e in
-      let z : false ≡ true = sym f ∙ t in
-      cc
+  pub envelope-found
+      : (f : Form Envelope) {x : Envelope} {q : ℕ} → envelope.Found x q ≡ envelopeAt (one f (drop at s) at) → one f (drop at s) at ≡ read x (drop q s) q
+  envelope-found f {x} {q} e =
+      let r = told-found envelope-tells (one f) s at e (kept-one f) refl in
+      let w : envelope.Found x q ≡ envelope.Found (r .value) q = r .told in
+      let y : r .value ≡ x = cc in
+      r .reads ∙ ap (λ (a : Envelope). read a (drop q s) q) y
+
+  pub envelope-bad : (f : Form Envelope) {q : ℕ} → envelope.Bad q ≡ envelopeAt (one f (drop at s) at) → one f (drop at s) at ≡ badAt q
+  envelope-bad f e = told-bad envelope-tells (one f) s at e refl
 
   pub rule-found : {r : RuleAt} → r ≡ ruleAt (one ruleForm (drop at s) at) → r .found ≡ true → one ruleForm (drop at s) at ≡ read (r .rule) (drop (r .next) s) (r .next)
-  rule-found e t = rule-by (one ruleForm (drop at s) at) refl e t
-
-  rule-not : (m : Reading Rule) {r : RuleAt} → one ruleForm (drop at s) at ≡ m → r ≡ ruleAt m → r .found ≡ false → m ≡ badAt at
-  rule-not (read b ys p) {r} h e t =
-      let f : r .found ≡ true = ap (λ (x : RuleAt). x .found) e in
-      let z : true ≡ false = sym f ∙ t in
-      cc
-  rule-not (badAt p) {r} h e t = ap badAt (bad-is s at ruleForm h)
+  rule-found {r} e g =
+      let w = told-found rule-tells (one ruleForm) s at e (kept-one ruleForm) g in
+      w .reads ∙ ap (λ (x : Rule). read x (drop (r .next) s) (r .next)) (sym (ap (λ (x : RuleAt). x .rule) (w .told)))
 
   pub rule-bad : {r : RuleAt} → r ≡ ruleAt (one ruleForm (drop at s) at) → r .found ≡ false → one ruleForm (drop at s) at ≡ badAt at
-  rule-bad e t = rule-not (one ruleForm (drop at s) at) refl e t
+  rule-bad e g =
+      let w = told-bad rule-tells (one ruleForm) s at e g in w ∙ ap badAt (bad-is s at ruleForm w)
 
 -- ---- so many, one after another
 module _ {A : Type 0} where
@@ -123,22 +211,41 @@ module _ {A : Type 0} where
   unfolding repeat onward
   gathered-all f l xs p = ap (λ (t : List A). read t xs p) (append-nil l)
 
--- ---- a table has at most 16 rules
-sixteen : (b : Bool) (xs : List ℕ) (x : ℕ) {c n : ℕ} → leb x 16 ≡ b → follow xs (only b (done x)) 5 ≡ got c n → c ≤ 16
-sixteen true xs x {c} {n} t e =
-    let z : x ≡ c = cc in omega (arith, leb-true x 16 t)
-sixteen false xs x {c} {n} t e =
-    let z : _≡_ {A = ℕ} 0 1 = cc in absurd (omega arith)
+-- ---- what holds of every value that a form may give holds of the one that is read
+module _ {A : Type 0} (P : A → Type 0) where
+  abbrev pub Gives : Form A → Type 0
+  Gives (done a) = P a
+  Gives refuse = Unit
+  Gives (field w k) = (v : ℕ) → Gives (k v)
 
-few-by : (xs : List ℕ) (p : ℕ) (g : Got ℕ) {c : ℕ} {ys : List ℕ} {q : ℕ} → recordOf ruleCountForm xs ≡ g → placed g xs p ≡ read c ys q → c ≤ 16
-unfolding ruleCountForm placed
-few-by xs p (got b n) {c} {ys} {q} h e =
-    let x : b ≡ c = cc in
-    let r = found ruleCountForm xs h in
-    omega (arith, sixteen (leb (fieldAt xs 0 5) 16) xs (fieldAt xs 0 5) refl (r .follows))
-few-by xs p bad {c} {ys} {q} h e =
-    let z : _≡_ {A = ℕ} 0 1 = cc in absurd (omega arith)
+  pub only-gives : (b : Bool) (f : Form A) → (b ≡ true → Gives f) → Gives (only b f)
+  only-gives true f g = g refl
+  only-gives false f g = tt
 
+  follow-gives : (xs : List ℕ) (f : Form A) (at : ℕ) {a : A} {n : ℕ} → Gives f → follow xs f at ≡ got a n → P a
+  follow-gives xs (done b) at {a} {n} g e =
+      let x : b ≡ a = cc in subst P x g
+  follow-gives xs refuse at {a} {n} g e =
+      let z : _≡_ {A = ℕ} 0 1 = cc in absurd (omega arith)
+  follow-gives xs (field w k) at g e = follow-gives xs (k (fieldAt xs at w)) (at + w) (g (fieldAt xs at w)) e
+
+  placed-gives : (f : Form A) (xs : List ℕ) (p : ℕ) (r : Got A) {a : A} {ys : List ℕ} {q : ℕ} → Gives f → recordOf f xs ≡ r → placed r xs p ≡ read a ys q → P a
+  unfolding placed
+  placed-gives f xs p (got b n) {a} {ys} {q} g h e =
+      let x : b ≡ a = cc in subst P x (follow-gives xs f 0 g (found f xs h .follows))
+  placed-gives f xs p bad {a} {ys} {q} g h e =
+      let z : _≡_ {A = ℕ} 0 1 = cc in absurd (omega arith)
+
+  pub one-gives : (f : Form A) (xs : List ℕ) (p : ℕ) {a : A} {ys : List ℕ} {q : ℕ} → Gives f → one f xs p ≡ read a ys q → P a
+  unfolding one
+  one-gives f xs p g e = placed-gives f xs p (recordOf f xs) g refl e
+
+-- a table has at most 16 rules
 pub few-rules : (xs : List ℕ) (p : ℕ) {c : ℕ} {ys : List ℕ} {q : ℕ} → one ruleCountForm xs p ≡ read c ys q → c ≤ 16
-unfolding one
-few-rules xs p e = few-by xs p (recordOf ruleCountForm xs) refl e
+unfolding ruleCountForm
+few-rules xs p e = one-gives (λ n. n ≤ 16) ruleCountForm xs p (λ n. only-gives (λ m. m ≤ 16) (leb n 16) (done n) (leb-true n 16)) e
+
+-- a script has at most 128 starting envelopes
+pub few-envelopes : (xs : List ℕ) (p : ℕ) {c : ℕ} {ys : List ℕ} {q : ℕ} → one (envelopeCountForm version1) xs p ≡ read c ys q → c ≤ 128
+unfolding envelopeCountForm
+few-envelopes xs p e = one-gives (λ n. n ≤ 128) (envelopeCountForm version1) xs p (λ n. only-gives (λ m. m ≤ 128) (leb n 128) (done n) (leb-true n 128)) e

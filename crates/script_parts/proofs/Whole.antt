@@ -16,7 +16,7 @@ use Rattle.records.proofs.Laws.{Sized}
 use Rattle.script.specs.declared.Layout.the-variants as layout
 use Rattle.script.specs.Views.{layoutOf}
 use Rattle.script.proofs.Due.{enough, action-sized, scriptEnd, afterEnvelopes, afterTables, afterHeader}
-use Rattle.script_parts.proofs.Readings.{left-is}
+pub use Rattle.script_parts.proofs.Readings.{Kept, kept-one}
 
 -- ---- first one reading, then another
 pub record Both {A B : Type 0} (m : Reading A) (k : A → Reader B) (b : B) (ys : List ℕ) (q : ℕ) : Type 0 where
@@ -37,17 +37,11 @@ pub both : {A B : Type 0} (m : Reading A) (k : A → Reader B) {b : B} {ys : Lis
 both m k e = both-by m m k refl e
 
 -- ---- what is left is what stands from the place on
-abbrev pub Kept : {A : Type 0} → Reader A → Type 0
-Kept {A} f = (s : List ℕ) (at : ℕ) (a : A) (ys : List ℕ) (q : ℕ) → f (drop at s) at ≡ read a ys q → ys ≡ drop q s
-
 kept-read : {A : Type 0} (a : A) → Kept (read a)
 kept-read a s at b ys q e =
     let y : drop at s ≡ ys = cc in
     let z : at ≡ q = cc in
     sym y ∙ ap (λ (k : ℕ). drop k s) z
-
-pub kept-one : {A : Type 0} (f : Form A) → Kept (one f)
-kept-one f s at a ys q e = left-is s at f e
 
 kept-onward : {A B : Type 0} (f : Reader A) (k : A → Reader B) → Kept f → ((a : A) → Kept (k a)) → Kept (λ xs p. onward (f xs p) k)
 kept-onward {A} f k kf kk s at b ys q e =
@@ -59,7 +53,7 @@ kept-joining : {A : Type 0} (a : A) (l : List A) → Kept (joining a l)
 unfolding joining
 kept-joining a l = kept-read (a ∷ l)
 
-kept-repeat : {A : Type 0} (n : ℕ) (f : Reader A) → Kept f → Kept (repeat n f)
+pub kept-repeat : {A : Type 0} (n : ℕ) (f : Reader A) → Kept f → Kept (repeat n f)
 unfolding repeat
 kept-repeat zero f kf = kept-read []
 kept-repeat (suc n) f kf =
@@ -69,7 +63,7 @@ pub kept-table : Kept tableFrom
 unfolding tableFrom
 kept-table = kept-onward (one ruleCountForm) (λ c. repeat c (one ruleForm)) (kept-one ruleCountForm) (λ c. kept-repeat c (one ruleForm) (kept-one ruleForm))
 
-kept-envelopes : (v : Version) → Kept (envelopesFrom v)
+pub kept-envelopes : (v : Version) → Kept (envelopesFrom v)
 unfolding envelopesFrom
 kept-envelopes v =
     kept-onward (one (envelopeCountForm v)) (λ c. repeat c (one (envelopeForm v))) (kept-one (envelopeCountForm v)) (λ c. kept-repeat c (one (envelopeForm v)) (kept-one (envelopeForm v)))

@@ -121,9 +121,13 @@ blank-table t y e =
 pub rules-back : (rs : List Rule) → rulesOf (tableAs rs) ≡ rs
 rules-back rs = pad-view 16 zeroRule rs
 
+pub table-fits : (rs : List Rule) → leb (length rs) 16 ≡ true → tableLaid (tableAs rs) ≡ true
+unfolding tableLaid blankRule unused zeroCommand all every
+table-fits rs h = rw (h, pad-rest blankRule zeroRule refl 16 rs)
+
 pub table-kept : (rs : List Rule) → sound rs ≡ true → tableLaid (tableAs rs) ≡ true
-unfolding tableLaid sound blankRule unused zeroCommand all every
-table-kept rs e = let h = and-both (leb (length rs) 16) _ e .0 in rw (h, pad-rest blankRule zeroRule refl 16 rs)
+unfolding sound every
+table-kept rs e = table-fits rs (and-both (leb (length rs) 16) _ e .0)
 
 pub zero-blank : blankTable zeroTable ≡ true
 unfolding blankTable sound all every

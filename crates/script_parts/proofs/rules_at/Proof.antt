@@ -1,27 +1,21 @@
 use borrow.Author.Tests.{not-true, not-false}
 use native.Mathlib.Omega.{arith}
-use Prim.Native.Nat.{ℕ, suc, _+_, _-_, _≤_}
+use Prim.Native.Nat.{_-_}
 use mathlib.Core.Path.{_≡_, sym, ap, _∙_}
-use mathlib.Core.List.{List, [], _∷_, _++_}
 use borrow.Author.Needs.{needs}
-use lib.ListN.{length, take, drop, set}
+use lib.ListN.{take}
 use Rattle.lists.specs.Lists.{pad}
-use Rattle.lists.proofs.Places.{laid-length}
-use Rattle.layout.specs.Read.{read, one, repeat}
-use Rattle.types.specs.declared.Rule.{Rule}
+use Rattle.layout.specs.Read.{one}
 use Rattle.rules.specs.Script.{ruleForm}
 use Rattle.records.specs.Views.{zeroRule}
-use Rattle.records.proofs.Laws.{more-used, more-laid}
 use Rattle.script_parts.specs.Views.{tableAt}
-use Rattle.script_parts.proofs.Readings.{rule-found, rule-bad, gathered, gathered-none, gathered-more, gathered-bad, gathered-all}
+use Rattle.script_parts.proofs.Readings.{rule-found, rule-bad}
+use Rattle.script_parts.proofs.Loops.{Reads, reads-none, reads-more, reads-bad, reads-all, reads-count}
 use Rattle.script_parts.proofs.rules_at.Statement.{statement}
 use Rattle.script_parts.proofs.rules_at.Tie as tie
 
 abbrev Inv-loop : tie.InvT-loop
-Inv-loop s at count rules₀ next₀ i₀ rules next i =
-    (i ≤ count)
-    × (rules ≡ pad 16 zeroRule (take i rules))
-    × (repeat count (one ruleForm) (drop at s) at ≡ gathered (take i rules) (repeat (count - i) (one ruleForm) (drop next s) next))
+Inv-loop s at count rules₀ next₀ i₀ rules next i = Reads 16 zeroRule (one ruleForm) s at count rules next i
 
 abbrev μ-loop : tie.MeasureT-loop
 μ-loop s at count rules₀ next₀ i₀ rules next i = count - i
@@ -33,12 +27,7 @@ loop-holds : tie.Need-loop-holds Inv-loop μ-loop
 unfolding pad
 loop-holds c =
     let a = c .before .before .args in
-    let n : a .count ≡ a .count - 0 = omega arith in (
-      search needs,
-      rw (c .zero-rule .ensures),
-      gathered-none (repeat (a .count) (one ruleForm) (drop (a .at) (a .s .now)) (a .at))
-          ∙ ap (λ (j : ℕ). gathered [] (repeat j (one ruleForm) (drop (a .at) (a .s .now)) (a .at))) n,
-    )
+    reads-none 16 zeroRule (one ruleForm) (a .s .now) (a .at) (a .count) _ (rw (c .zero-rule .ensures))
 
 rule-at-requires : tie.Need-rule-at-requires Inv-loop μ-loop
 rule-at-requires c κs = search needs
@@ -51,14 +40,8 @@ returns c =
     let l = c .before .before .before .before .before .loop in
     let a = c .before .before .before .before .before .before .before .before .args in
     let f = c .before .before .before .rule-at in
-    let k : ℕ = a .count - (l .i + 1) in
-    let n : a .count - l .i ≡ suc k = omega arith in
     c .bad-table .ensures
-    ∙ ap tableAt
-    (sym
-    (l .inv .2
-    ∙ ap (λ (j : ℕ). gathered (take (l .i) (l .rules)) (repeat j (one ruleForm) (drop (l .next) (a .s .now)) (l .next))) n
-    ∙ gathered-bad (one ruleForm) (take (l .i) (l .rules)) k (drop (l .next) (a .s .now)) (l .next) (rule-bad (a .s .now) (l .next) (f .ensures) (not-true _ (c .before .if1 .taken)))))
+    ∙ ap tableAt (sym (reads-bad 16 zeroRule (one ruleForm) (a .s .now) (a .at) (a .count) (l .inv) (omega arith) (rule-bad (a .s .now) (l .next) (f .ensures) (not-true _ (c .before .if1 .taken)))))
 
 mul-rules : tie.Need-mul-rules Inv-loop μ-loop
 mul-rules c = search needs
@@ -77,32 +60,15 @@ loop-again c =
     let l = c .before .before .before .before .loop in
     let a = c .before .before .before .before .before .before .before .args in
     let f = c .before .before .rule-at in
-    let x : Rule = f .result .rule in
-    let k : ℕ = a .count - (l .i + 1) in
-    let n : a .count - l .i ≡ suc k = omega arith in
-    let w : l .rules ≡ pad 16 zeroRule (take (l .i) (l .rules)) = l .inv .1 in
-    let e : take (l .i + 1) (set (l .rules) (l .i) x) ≡ take (l .i) (l .rules) ++ (x ∷ []) = more-used 16 zeroRule (l .rules) (l .i) (omega arith) w x in (
-      search needs,
-      more-laid 16 zeroRule (l .rules) (l .i) (omega arith) w x,
-      l .inv .2
-          ∙ ap (λ (j : ℕ). gathered (take (l .i) (l .rules)) (repeat j (one ruleForm) (drop (l .next) (a .s .now)) (l .next))) n
-          ∙ gathered-more (one ruleForm) (take (l .i) (l .rules)) k (drop (l .next) (a .s .now)) (l .next) (rule-found (a .s .now) (l .next) (f .ensures) (not-false _ (c .if1 .left)))
-          ∙ ap (λ (t : List Rule). gathered t (repeat k (one ruleForm) (drop (f .result .next) (a .s .now)) (f .result .next))) (sym e),
-    )
+    reads-more 16 zeroRule (one ruleForm) (a .s .now) (a .at) (a .count) (l .inv) (omega arith) (omega arith) (rule-found (a .s .now) (l .next) (f .ensures) (not-false _ (c .if1 .left)))
 
 returns-2 : tie.Need-returns-2 Inv-loop μ-loop
 returns-2 c =
     let l = c .before .loop in
     let a = c .before .before .before .before .args in
-    let e : l .i ≡ a .count = omega arith in
-    let n : a .count - l .i ≡ 0 = omega arith in
-    let w : l .rules ≡ pad 16 zeroRule (take (l .i) (l .rules)) = l .inv .1 in
-    let z : length (take (l .i) (l .rules)) ≡ a .count = laid-length 16 zeroRule (l .rules) (l .i) (omega arith) w ∙ e in
-    let t : repeat (a .count) (one ruleForm) (drop (a .at) (a .s .now)) (a .at) ≡ read (take (l .i) (l .rules)) (drop (l .next) (a .s .now)) (l .next) =
-    l .inv .2
-    ∙ ap (λ (j : ℕ). gathered (take (l .i) (l .rules)) (repeat j (one ruleForm) (drop (l .next) (a .s .now)) (l .next))) n
-    ∙ gathered-all (one ruleForm) (take (l .i) (l .rules)) (drop (l .next) (a .s .now)) (l .next) in
-    rw t (rw (z, ← w))
+    let w : l .rules ≡ pad 16 zeroRule (take (l .i) (l .rules)) = l .inv .laid in
+    rw (reads-all 16 zeroRule (one ruleForm) (a .s .now) (a .at) (a .count) (l .inv) (omega arith))
+    (rw (reads-count 16 zeroRule (one ruleForm) (a .s .now) (a .at) (a .count) (l .inv) (omega arith) (omega arith), ← w))
 
 pub rules-at-spec : {M : Type 1} → statement M
 rules-at-spec =
