@@ -1,6 +1,7 @@
 #!/usr/bin/env bash
 # Builds the oracle: copies the supplied Rust into target/oracle, compares the copies byte for byte with the originals and
 # with supplied.sha256, lays our stand-ins beside them and compiles. The argument is the folder of the supplied files.
+# Where PORT_ARCHIVE names the folder of libstates.a, the port is linked in, and the oracle has the command `agree`.
 set -euo pipefail
 here=$(cd "$(dirname "$0")" && pwd)
 supplied=$(cd "${1:-$here/../../shared/docs/src}" && pwd)
@@ -24,7 +25,9 @@ chmod -R u+w "$crate"
 
 # The crates come from Debian's folder, not from the network.
 cd "$out"
-cargo build --release --offline -j1 --quiet \
+features=()
+if [ -n "${PORT_ARCHIVE:-}" ]; then features=(--features ours); fi
+cargo build --release --offline -j1 --quiet "${features[@]}" \
   --config 'source.crates-io.replace-with="debian"' \
   --config "source.debian.directory=\"$registry\"" \
   --target-dir "$out/build"

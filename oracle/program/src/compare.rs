@@ -28,7 +28,7 @@ fn replayed(program: &str, bytes: &[u8]) -> Result<String, String> {
 }
 
 /// The first line in which two outputs differ.
-fn difference(ours: &str, theirs: &str) -> String {
+pub fn difference(ours: &str, theirs: &str) -> String {
     let (mut x, mut y) = (ours.lines(), theirs.lines());
     let mut line = 1;
     loop {

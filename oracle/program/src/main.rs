@@ -3,6 +3,8 @@ mod compare;
 mod drive;
 mod faults;
 mod generate;
+#[cfg(feature = "ours")]
+mod ours;
 mod random;
 mod report;
 mod script;
@@ -26,6 +28,7 @@ oracle make SEED                    the script of a seed
 oracle count FIRST COUNT            which answers the scripts of these seeds reach
 oracle compare [--states] PROGRAM FIRST COUNT
                                     runs a replay program beside the oracle on the scripts of these seeds
+oracle agree FIRST COUNT            the port, where it is linked in, beside the oracle: whole systems
 oracle shrink PROGRAM SEED          a smaller script on which they differ";
 
 /// The file that is named, or standard input.
@@ -94,6 +97,8 @@ fn perform(args: &[String]) -> Result<(), String> {
         Some("make") => output(&generate::generate(number(rest, 0)?)),
         Some("count") => compare::count(number(rest, 0)?, number(rest, 1)?),
         Some("compare") => compare(rest),
+        #[cfg(feature = "ours")]
+        Some("agree") => ours::agree(number(rest, 0)?, number(rest, 1)?),
         Some("shrink") => compare::shrink(program(rest)?, number(rest, 1)?),
         _ => Err(USAGE.to_string()),
     }

@@ -1,0 +1,180 @@
+//! The port itself, linked in: its output for a script, and the whole system after each answer, in the oracle's words.
+//! The archive is made of the crate `states`, which is for this alone.
+use crate::generate::{generate, profile};
+use crate::report::{report, Options};
+
+// A slice crosses as its address and its length, in Rust and in the archive alike.
+#[allow(improper_ctypes)]
+extern "C" {
+    fn states_replay(script: &[u8], out: &mut [u8]) -> usize;
+    fn states_all(script: &[u8], out: &mut [u8]) -> usize;
+}
+
+/// The bytes of one dumped system.
+const SIZE: usize = 10_409;
+
+/// The most actions after each of which the whole system is compared.
+const MOST: usize = 600;
+
+/// Room for the output of any script, and for that many systems.
+pub struct Room {
+    output: Vec<u8>,
+    states: Vec<u8>,
+}
+
+impl Room {
+    pub fn new() -> Room {
+        Room { output: vec![0; 160 + 23 * 65_536], states: vec![0; (MOST + 1) * SIZE] }
+    }
+}
+
+/// Reads a dump from the front: numbers of fixed width, the high byte first.
+struct Dump<'a> {
+    bytes: &'a [u8],
+}
+
+impl Dump<'_> {
+    fn number(&mut self, width: usize) -> u64 {
+        let (front, rest) = self.bytes.split_at(width);
+        self.bytes = rest;
+        front.iter().fold(0, |sum, byte| sum << 8 | u64::from(*byte))
+    }
+
+    fn envelope(&mut self) -> String {
+        let (src, dst, tag, number, payload) = (self.number(1), self.number(1), self.number(1), self.number(8), self.number(4));
+        match tag {
+            0 => format!("{src} {dst} deliver {number} {payload}"),
+            _ => format!("{src} {dst} ack {number}"),
+        }
+    }
+
+    fn network(&mut self, lines: &mut Vec<String>) {
+        self.number(1);
+        let used = self.number(8);
+        for place in 0..128 {
+            let envelope = self.envelope();
+            let count = self.number(2);
+            if place < used {
+                lines.push(format!("entry {count} {envelope}"));
+            }
+        }
+        let tag = self.number(1);
+        let envelope = self.envelope();
+        lines.push(if tag == 0 { "last none".to_string() } else { format!("last {envelope}") });
+    }
+
+    /// The lines of a durable part.
+    fn part(&mut self, name: &str) -> Vec<String> {
+        let mut lines = vec![format!("{name} next {}", self.number(8))];
+        let used = self.number(8);
+        for place in 0..32 {
+            let (number, dst, payload) = (self.number(8), self.number(1), self.number(4));
+            if place < used {
+                lines.push(format!("{name} pending {number} {dst} {payload}"));
+            }
+        }
+        let used = self.number(8);
+        for source in 0..8 {
+            let number = self.number(8);
+            if source < used && number > 0 {
+                lines.push(format!("{name} taken {source} {number}"));
+            }
+        }
+        let (tag, value) = (self.number(1), self.number(4));
+        lines.push(if tag == 0 { format!("{name} inner none") } else { format!("{name} inner {value}") });
+        lines
+    }
+
+    fn actor(&mut self, actor: u64) -> Vec<String> {
+        let crashed = self.number(1) == 1;
+        let timers = self.number(4);
+        let live = self.part(&format!("actor {actor}"));
+        let state = self.number(1);
+        let some = self.number(1) == 1;
+        let stored = self.part(&format!("actor {actor} stored"));
+        let set: String = (0..32).filter(|timer| timers >> timer & 1 == 1).map(|timer| format!(" {timer}")).collect();
+        let mut lines = vec![
+            format!("actor {actor} {}", if crashed { "crashed" } else { "live" }),
+            format!("actor {actor} timers{set}"),
+            format!("actor {actor} state {state}"),
+        ];
+        lines.extend(live);
+        lines.extend(if some { stored } else { vec![format!("actor {actor} stored none")] });
+        lines
+    }
+
+    fn system(&mut self) -> Vec<String> {
+        let mut lines = Vec::new();
+        let count = self.number(8);
+        self.network(&mut lines);
+        for actor in 0..8 {
+            let own = self.actor(actor);
+            if actor < count {
+                lines.extend(own);
+            }
+        }
+        if count == 0 {
+            return vec!["blank".to_string()];
+        }
+        lines
+    }
+}
+
+/// The output of the port; with states, as many as there is room for.
+fn replayed(script: &[u8], room: &mut Room, states: bool) -> String {
+    let size = unsafe { states_replay(script, &mut room.output) };
+    let text = String::from_utf8_lossy(&room.output[..size]).into_owned();
+    if !states {
+        return text;
+    }
+    let end = unsafe { states_all(script, &mut room.states) };
+    let mut dumps = room.states[..end].chunks(SIZE);
+    let mut all = String::new();
+    for line in text.lines() {
+        all += line;
+        all += "\n";
+        if line.starts_with("done") || line.starts_with("bad") {
+            continue;
+        }
+        if let Some(bytes) = dumps.next() {
+            Dump { bytes }.system().iter().for_each(|fact| all += &format!("  {fact}\n"));
+        }
+    }
+    all
+}
+
+/// How many actions a script's output tells of.
+fn actions(output: &str) -> usize {
+    output.lines().count().saturating_sub(2)
+}
+
+/// A long script takes as much time as fifty others, so that one in sixteen of them is taken.
+fn is_left_out(seed: u64) -> bool {
+    seed % 16 == 15 && seed / 16 % 16 != 0
+}
+
+/// The whole system is compared after every answer; of scripts with more actions than `MOST`, every line.
+pub fn agree(first: u64, count: u64) -> Result<(), String> {
+    let mut room = Room::new();
+    let (mut scripts, mut differ, mut steps, mut systems) = (0u64, 0u64, 0u64, 0u64);
+    for seed in (first..first + count).filter(|seed| !is_left_out(*seed)) {
+        scripts += 1;
+        let bytes = generate(seed);
+        let plain = replayed(&bytes, &mut room, false);
+        let states = actions(&plain) <= MOST;
+        let ours = if states { replayed(&bytes, &mut room, true) } else { plain.clone() };
+        let theirs = report(&bytes, Options { marks: false, states });
+        steps += actions(&plain) as u64;
+        systems += if states { actions(&plain) as u64 + 1 } else { 0 };
+        if ours != theirs {
+            differ += 1;
+            println!("seed {seed} ({:?}): {}", profile(seed), crate::compare::difference(&theirs, &ours));
+        }
+    }
+    println!("seeds {first} to {}: {scripts} scripts, {steps} actions, {systems} whole systems, {differ} differ", first + count - 1);
+    if differ == 0 {
+        Ok(())
+    } else {
+        Err("the outputs differ".to_string())
+    }
+}
