@@ -21,7 +21,7 @@ ghost use Rattle.rules.specs.Script.{version1, readScript};
 ghost use Rattle.rules.specs.Program.{output};
 ghost use Rattle.script.specs.declared.Layout.the-variants.{Good};
 ghost use Rattle.script.specs.Views.{layoutOf};
-ghost use Rattle.states.specs.Views.{Goes};
+ghost use Rattle.states.specs.Views.{isGood, Goes};
 
 #[no_mangle]
 pub extern "C" fn states_replay(script: &[u8], out: &mut [u8]) -> usize
@@ -29,6 +29,18 @@ pub extern "C" fn states_replay(script: &[u8], out: &mut [u8]) -> usize
     ensures bytes { λ r. ⌜ now (out .exit) ≡ choose (leb r (length (now (out .entry)))) (output base version1 (now (script .entry)) ++ drop r (now (out .entry))) (now (out .entry)) ⌝ }
 {
     playback::replay(script, out)
+}
+
+// The reading alone, for the benchmark: whether the layout is good.
+#[no_mangle]
+pub extern "C" fn states_reads(script: &[u8]) -> bool
+    ensures { λ r. ⌜ r ≡ isGood (layoutOf (readScript version1 (now (script .entry)))) ⌝ }
+{
+    let layout = check_script(script);
+    match layout {
+        Layout::Bad(_) => false,
+        Layout::Good => true,
+    }
 }
 
 // A system, if there is room for it.

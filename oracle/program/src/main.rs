@@ -1,4 +1,6 @@
 //! The oracle: runs action scripts through the Rust, makes scripts, and compares a replay program with it.
+#[cfg(feature = "ours")]
+mod bench;
 mod compare;
 mod drive;
 mod faults;
@@ -29,6 +31,7 @@ oracle count FIRST COUNT            which answers the scripts of these seeds rea
 oracle compare [--states] PROGRAM FIRST COUNT
                                     runs a replay program beside the oracle on the scripts of these seeds
 oracle agree FIRST COUNT            the port, where it is linked in, beside the oracle: whole systems
+oracle bench                        how many actions a second the port and the Rust perform
 oracle shrink PROGRAM SEED          a smaller script on which they differ";
 
 /// The file that is named, or standard input.
@@ -99,6 +102,11 @@ fn perform(args: &[String]) -> Result<(), String> {
         Some("compare") => compare(rest),
         #[cfg(feature = "ours")]
         Some("agree") => ours::agree(number(rest, 0)?, number(rest, 1)?),
+        #[cfg(feature = "ours")]
+        Some("bench") => {
+            bench::bench();
+            Ok(())
+        }
         Some("shrink") => compare::shrink(program(rest)?, number(rest, 1)?),
         _ => Err(USAGE.to_string()),
     }

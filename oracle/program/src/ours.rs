@@ -8,10 +8,12 @@ use crate::report::{report, Options};
 extern "C" {
     fn states_replay(script: &[u8], out: &mut [u8]) -> usize;
     fn states_all(script: &[u8], out: &mut [u8]) -> usize;
+    fn states_reads(script: &[u8]) -> bool;
 }
 
-/// The bytes of one dumped system.
+/// The bytes of one dumped system, and of an entry in it.
 const SIZE: usize = 10_409;
+const ENTRY: usize = 17;
 
 /// The most actions after each of which the whole system is compared.
 const MOST: usize = 600;
@@ -26,6 +28,17 @@ impl Room {
     pub fn new() -> Room {
         Room { output: vec![0; 160 + 23 * 65_536], states: vec![0; (MOST + 1) * SIZE] }
     }
+}
+
+/// The output of the port.
+pub fn replay(script: &[u8], room: &mut Room) -> String {
+    let size = unsafe { states_replay(script, &mut room.output) };
+    String::from_utf8_lossy(&room.output[..size]).into_owned()
+}
+
+/// Whether the port finds the layout good.
+pub fn reads(script: &[u8]) -> bool {
+    unsafe { states_reads(script) }
 }
 
 /// Reads a dump from the front: numbers of fixed width, the high byte first.
@@ -50,14 +63,13 @@ impl Dump<'_> {
 
     fn network(&mut self, lines: &mut Vec<String>) {
         self.number(1);
-        let used = self.number(8);
-        for place in 0..128 {
+        let used = self.number(8) as usize;
+        for _ in 0..used {
             let envelope = self.envelope();
             let count = self.number(2);
-            if place < used {
-                lines.push(format!("entry {count} {envelope}"));
-            }
+            lines.push(format!("entry {count} {envelope}"));
         }
+        self.bytes = &self.bytes[(128 - used) * ENTRY..];
         let tag = self.number(1);
         let envelope = self.envelope();
         lines.push(if tag == 0 { "last none".to_string() } else { format!("last {envelope}") });
@@ -103,32 +115,60 @@ impl Dump<'_> {
         lines
     }
 
-    fn system(&mut self) -> Vec<String> {
-        let mut lines = Vec::new();
-        let count = self.number(8);
-        self.network(&mut lines);
-        for actor in 0..8 {
-            let own = self.actor(actor);
-            if actor < count {
-                lines.extend(own);
-            }
+}
+
+/// The facts of the system that was dumped before, by their bytes: most steps leave most actors as they were.
+#[derive(Default)]
+struct Facts {
+    actors: Vec<(Vec<u8>, String)>,
+}
+
+/// The bytes of the count, of the network and of an actor.
+const COUNT: usize = 8;
+const NETWORK: usize = 2_201;
+const ACTOR: usize = 1_025;
+
+fn indented(lines: Vec<String>) -> String {
+    lines.iter().map(|line| format!("  {line}\n")).collect()
+}
+
+impl Facts {
+    fn actor(&mut self, actor: usize, bytes: &[u8]) -> &str {
+        if self.actors.len() == actor {
+            self.actors.push((vec![], String::new()));
         }
+        let (before, text) = &mut self.actors[actor];
+        if before != bytes {
+            *before = bytes.to_vec();
+            *text = indented(Dump { bytes }.actor(actor as u64));
+        }
+        text
+    }
+
+    fn tell(&mut self, bytes: &[u8], all: &mut String) {
+        let count = Dump { bytes }.number(COUNT) as usize;
         if count == 0 {
-            return vec!["blank".to_string()];
+            *all += "  blank\n";
+            return;
         }
-        lines
+        let mut lines = Vec::new();
+        Dump { bytes: &bytes[COUNT..] }.network(&mut lines);
+        *all += &indented(lines);
+        for (actor, own) in bytes[COUNT + NETWORK..].chunks(ACTOR).take(count).enumerate() {
+            *all += self.actor(actor, own);
+        }
     }
 }
 
 /// The output of the port; with states, as many as there is room for.
 fn replayed(script: &[u8], room: &mut Room, states: bool) -> String {
-    let size = unsafe { states_replay(script, &mut room.output) };
-    let text = String::from_utf8_lossy(&room.output[..size]).into_owned();
+    let text = replay(script, room);
     if !states {
         return text;
     }
     let end = unsafe { states_all(script, &mut room.states) };
     let mut dumps = room.states[..end].chunks(SIZE);
+    let mut facts = Facts::default();
     let mut all = String::new();
     for line in text.lines() {
         all += line;
@@ -137,7 +177,7 @@ fn replayed(script: &[u8], room: &mut Room, states: bool) -> String {
             continue;
         }
         if let Some(bytes) = dumps.next() {
-            Dump { bytes }.system().iter().for_each(|fact| all += &format!("  {fact}\n"));
+            facts.tell(bytes, &mut all);
         }
     }
     all

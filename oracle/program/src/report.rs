@@ -1,7 +1,7 @@
 //! The program's output for a script, as document 01 has it; with marks (who gave an answer) and the states if asked.
 use crate::drive::{start, Answer, By, Run};
 use crate::script::{read, Script};
-use crate::view::lines;
+use crate::view::Facts;
 
 #[derive(Clone, Copy, Default)]
 pub struct Options {
@@ -13,6 +13,7 @@ struct Report {
     options: Options,
     text: String,
     totals: [usize; 3],
+    facts: Facts,
 }
 
 impl Report {
@@ -24,8 +25,10 @@ impl Report {
         }
         self.text += "\n";
         if self.options.states {
-            let facts = run.map_or(vec!["blank".to_string()], |run| lines(&run.system));
-            facts.iter().for_each(|fact| self.text += &format!("  {fact}\n"));
+            match run {
+                None => self.text += "  blank\n",
+                Some(run) => self.facts.tell(&run.system, &mut self.text),
+            }
         }
     }
 
@@ -47,7 +50,7 @@ impl Report {
 }
 
 pub fn report(bytes: &[u8], options: Options) -> String {
-    let mut report = Report { options, text: String::new(), totals: [0; 3] };
+    let mut report = Report { options, text: String::new(), totals: [0; 3], facts: Facts::default() };
     match read(bytes) {
         Err(place) => format!("bad {place}\n"),
         Ok(script) => {

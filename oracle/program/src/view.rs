@@ -2,8 +2,9 @@
 use crate::script::{number_of, Env, Message};
 use crate::table::Table;
 use stateright::actor::ordered_reliable_link::{ActorWrapper, MsgWrapper, TimerWrapper};
-use stateright::actor::{ActorModelState, Envelope, Network};
+use stateright::actor::{Actor, ActorModelState, Envelope, Network};
 use std::fmt::Debug;
+use std::sync::Arc;
 
 pub type Link = ActorWrapper<Table>;
 pub type System = ActorModelState<Link, ()>;
@@ -144,16 +145,65 @@ fn actor_lines(lines: &mut Vec<String>, system: &System, actor: usize) {
     }
 }
 
-/// The whole system, a fact a line.
-pub fn lines(system: &System) -> Vec<String> {
+/// What the facts of an actor hang on, and their text. Most steps leave most actors as they were.
+struct Told {
+    state: Arc<<Link as Actor>::State>,
+    storage: Option<<Link as Actor>::Storage>,
+    crashed: bool,
+    timers: Vec<u8>,
+    text: String,
+}
+
+/// The whole system, a fact a line, two spaces in.
+#[derive(Default)]
+pub struct Facts {
+    actors: Vec<Told>,
+}
+
+fn indented(lines: Vec<String>) -> String {
+    lines.iter().map(|line| format!("  {line}\n")).collect()
+}
+
+fn told(system: &System, actor: usize) -> Told {
     let mut lines = Vec::new();
-    for (count, env) in entries(&system.network) {
-        lines.push(format!("entry {count} {}", envelope_text(&env)));
+    actor_lines(&mut lines, system, actor);
+    Told {
+        state: system.actor_states[actor].clone(),
+        storage: system.actor_storages[actor].clone(),
+        crashed: system.crashed[actor],
+        timers: timers(system, actor),
+        text: indented(lines),
     }
-    lines.push(match last(&system.network) {
-        None => "last none".to_string(),
-        Some(env) => format!("last {}", envelope_text(env)),
-    });
-    (0..system.crashed.len()).for_each(|actor| actor_lines(&mut lines, system, actor));
-    lines
+}
+
+impl Facts {
+    fn is_same(&self, system: &System, actor: usize) -> bool {
+        self.actors.get(actor).is_some_and(|told| {
+            Arc::ptr_eq(&told.state, &system.actor_states[actor])
+                && told.storage == system.actor_storages[actor]
+                && told.crashed == system.crashed[actor]
+                && told.timers == timers(system, actor)
+        })
+    }
+
+    pub fn tell(&mut self, system: &System, text: &mut String) {
+        let mut lines = Vec::new();
+        for (count, env) in entries(&system.network) {
+            lines.push(format!("entry {count} {}", envelope_text(&env)));
+        }
+        lines.push(match last(&system.network) {
+            None => "last none".to_string(),
+            Some(env) => format!("last {}", envelope_text(env)),
+        });
+        *text += &indented(lines);
+        for actor in 0..system.crashed.len() {
+            if !self.is_same(system, actor) {
+                match self.actors.get_mut(actor) {
+                    Some(old) => *old = told(system, actor),
+                    None => self.actors.push(told(system, actor)),
+                }
+            }
+            *text += &self.actors[actor].text;
+        }
+    }
 }
