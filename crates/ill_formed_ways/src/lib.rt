@@ -7,6 +7,7 @@ use durable::Durable;
 use durable::Stored;
 use durable::fresh_durable;
 use inner::Table;
+use lines::number_of;
 use link::Link;
 use network::Network;
 use system::System;
@@ -14,7 +15,6 @@ use system::zero_table;
 use system_step::step;
 use timers::Timers;
 use types::Action;
-use types::Answer;
 use types::Entry;
 use types::Envelope;
 use types::Id;
@@ -38,26 +38,6 @@ ghost use Rattle.ill_formed_ways.specs.Trials.{crashing, Alike};
 pub struct Trial {
     pub answer: u64,
     pub same: bool,
-}
-
-fn number_of(a: Answer) -> u64
-    ensures { λ r. ⌜ r ≡ answerNumber a ⌝ }
-{
-    match a {
-        Answer::Done => 0,
-        Answer::Ignored => 1,
-        Answer::OutOfRange => 2,
-        Answer::Absent => 3,
-        Answer::Live => 4,
-        Answer::NotSet => 5,
-        Answer::NumbersUsedUp => 6,
-        Answer::PendingFull => 7,
-        Answer::NetworkFull => 8,
-        Answer::NotWellFormed => 9,
-        Answer::StartRefused => 10,
-        Answer::Unreadable => 11,
-        Answer::UnknownName => 12,
-    }
 }
 
 // The same bytes, and so the same system but for its tables.

@@ -1,10 +1,12 @@
 // The lines of the program, each put into a lent buffer from a place on, or with `write` false only measured: a buffer
 // that is too small is left untouched, so the whole output is measured first, by the code that then writes it.
 // Each answers the place after what it put. A line starts at a place of up to 32 bits, so that no sum overflows.
+use types::Answer;
 ghost use mathlib.Core.Path.{_≡_};
 ghost use mathlib.Core.List.{[], _∷_};
 ghost use Prim.Native.Nat.{_+_, _≤_};
 ghost use lib.ListN.{length};
+ghost use Rattle.types.specs.Answers.{answerNumber};
 ghost use Rattle.rules.specs.Program.{decimal, numbers, line, answerLine, badWord, startWord, doneWord};
 ghost use Rattle.lines.specs.Pieces.{put, Fits, Room, Piece};
 
@@ -123,4 +125,25 @@ pub fn done_line(
     let word = put_word(out, at, write, &DONE);
     let number = put_number(out, word, write, next);
     put_last_two(out, number, write, ignored, refused)
+}
+
+// The number that a line gives for an answer.
+pub fn number_of(a: Answer) -> u64
+    ensures { λ r. ⌜ r ≡ answerNumber a ⌝ }
+{
+    match a {
+        Answer::Done => 0,
+        Answer::Ignored => 1,
+        Answer::OutOfRange => 2,
+        Answer::Absent => 3,
+        Answer::Live => 4,
+        Answer::NotSet => 5,
+        Answer::NumbersUsedUp => 6,
+        Answer::PendingFull => 7,
+        Answer::NetworkFull => 8,
+        Answer::NotWellFormed => 9,
+        Answer::StartRefused => 10,
+        Answer::Unreadable => 11,
+        Answer::UnknownName => 12,
+    }
 }

@@ -2,9 +2,9 @@
 use actor::is_done;
 use lines::bad_line;
 use lines::done_line;
+use lines::number_of;
 use lines::start_line;
 use opening::open;
-use run::number_of;
 use run::run;
 use script::Layout;
 use script::check_script;

@@ -4,16 +4,15 @@ use act::act;
 use act::seat;
 use lines::answer_line;
 use lines::done_line;
+use lines::number_of;
 use script_parts::ActionAt;
 use script_parts::action_at;
 use system::System;
-use types::Answer;
 ghost use mathlib.Core.Path.{_≡_};
 ghost use mathlib.Core.List.{List};
 ghost use Prim.Native.Nat.{ℕ, _+_, _<_};
 ghost use lib.ListN.{drop};
 ghost use Rattle.types.specs.declared.Action.{Action};
-ghost use Rattle.types.specs.Answers.{answerNumber};
 ghost use Rattle.layout.specs.Read.{read};
 ghost use Rattle.rules.specs.Script.{version1, actionsFrom};
 ghost use Rattle.system.specs.Views.{sysView};
@@ -25,26 +24,6 @@ pub struct Tally {
     pub next: u64,
     pub ignored: u64,
     pub refused: u64,
-}
-
-pub fn number_of(a: Answer) -> u64
-    ensures { λ r. ⌜ r ≡ answerNumber a ⌝ }
-{
-    match a {
-        Answer::Done => 0,
-        Answer::Ignored => 1,
-        Answer::OutOfRange => 2,
-        Answer::Absent => 3,
-        Answer::Live => 4,
-        Answer::NotSet => 5,
-        Answer::NumbersUsedUp => 6,
-        Answer::PendingFull => 7,
-        Answer::NetworkFull => 8,
-        Answer::NotWellFormed => 9,
-        Answer::StartRefused => 10,
-        Answer::Unreadable => 11,
-        Answer::UnknownName => 12,
-    }
 }
 
 // One answer more.

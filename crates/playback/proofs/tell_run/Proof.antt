@@ -23,7 +23,7 @@ use Rattle.lines.proofs.done_line.Reads as done-line-reads
 use Rattle.lines.proofs.start_line.Reads as start-line-reads
 use Rattle.network.proofs.len.Reads as len-reads
 use Rattle.opening.proofs.open.Reads as open-reads
-use Rattle.run.proofs.number_of.Reads as number-of-reads
+use Rattle.lines.proofs.number_of.Reads as number-of-reads
 use Rattle.run.proofs.run.Reads as run-reads
 
 open-requires : tie.Need-open-requires

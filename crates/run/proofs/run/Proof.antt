@@ -29,7 +29,7 @@ use Rattle.lines.proofs.answer_line.Reads as answer-line-reads
 use Rattle.lines.proofs.done_line.Reads as done-line-reads
 use Rattle.network.proofs.len.Reads as len-reads
 use Rattle.run.proofs.count_answer.Reads as count-answer-reads
-use Rattle.run.proofs.number_of.Reads as number-of-reads
+use Rattle.lines.proofs.number_of.Reads as number-of-reads
 use Rattle.script_parts.proofs.action_at.Reads as action-at-reads
 
 abbrev Inv-loop : tie.InvT-loop
