@@ -6,6 +6,8 @@ mod drive;
 mod faults;
 mod generate;
 #[cfg(feature = "ours")]
+mod image;
+#[cfg(feature = "ours")]
 mod ours;
 mod random;
 mod report;

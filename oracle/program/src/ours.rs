@@ -1,7 +1,9 @@
 //! The port itself, linked in: its output for a script, and the whole system after each answer, in the oracle's words.
 //! The archive is made of the crate `states`, which is for this alone.
 use crate::generate::{generate, profile};
-use crate::report::{report, Options};
+use crate::drive::Run;
+use crate::image::Image;
+use crate::report::{report, report_with, Options};
 
 // A slice crosses as its address and its length, in Rust and in the archive alike.
 #[allow(improper_ctypes)]
@@ -183,35 +185,55 @@ fn replayed(script: &[u8], room: &mut Room, states: bool) -> String {
     all
 }
 
-/// How many actions a script's output tells of.
-fn actions(output: &str) -> usize {
-    output.lines().count().saturating_sub(2)
-}
-
 /// A long script takes as much time as fifty others, so that one in sixteen of them is taken.
 fn is_left_out(seed: u64) -> bool {
     seed % 16 == 15 && seed / 16 % 16 != 0
 }
 
-/// The whole system is compared after every answer; of scripts with more actions than `MOST`, every line.
+/// What was compared so far.
+#[derive(Default)]
+struct Tally {
+    scripts: u64,
+    actions: u64,
+    systems: u64,
+    differ: u64,
+}
+
+impl Tally {
+    /// The port's systems beside the Rust's, as many as were dumped, and then every line.
+    fn take(&mut self, bytes: &[u8], room: &mut Room) -> bool {
+        let end = unsafe { states_all(bytes, &mut room.states) };
+        let mut dumps = room.states[..end].chunks(SIZE);
+        let mut image = Image::default();
+        let mut same = true;
+        let (systems, actions) = (&mut self.systems, &mut self.actions);
+        let theirs = report_with(bytes, &mut |run: Option<&Run>| {
+            *actions += 1;
+            if let Some(dump) = dumps.next() {
+                *systems += 1;
+                same &= dump == image.of(run);
+            }
+        });
+        same && replay(bytes, room) == theirs
+    }
+}
+
+/// The whole system is compared after every answer (of the first `MOST` actions of a script), and every line.
 pub fn agree(first: u64, count: u64) -> Result<(), String> {
     let mut room = Room::new();
-    let (mut scripts, mut differ, mut steps, mut systems) = (0u64, 0u64, 0u64, 0u64);
+    let mut tally = Tally::default();
     for seed in (first..first + count).filter(|seed| !is_left_out(*seed)) {
-        scripts += 1;
         let bytes = generate(seed);
-        let plain = replayed(&bytes, &mut room, false);
-        let states = actions(&plain) <= MOST;
-        let ours = if states { replayed(&bytes, &mut room, true) } else { plain.clone() };
-        let theirs = report(&bytes, Options { marks: false, states });
-        steps += actions(&plain) as u64;
-        systems += if states { actions(&plain) as u64 + 1 } else { 0 };
-        if ours != theirs {
-            differ += 1;
+        tally.scripts += 1;
+        if !tally.take(&bytes, &mut room) {
+            tally.differ += 1;
+            let theirs = report(&bytes, Options { marks: false, states: true });
+            let ours = replayed(&bytes, &mut room, true);
             println!("seed {seed} ({:?}): {}", profile(seed), crate::compare::difference(&theirs, &ours));
         }
     }
-    println!("seeds {first} to {}: {scripts} scripts, {steps} actions, {systems} whole systems, {differ} differ", first + count - 1);
+    let Tally { scripts, actions, systems, differ } = tally;
+    println!("seeds {first} to {}: {scripts} scripts, {actions} answers, {systems} whole systems, {differ} differ", first + count - 1);
     if differ == 0 {
         Ok(())
     } else {

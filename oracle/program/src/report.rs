@@ -32,15 +32,21 @@ impl Report {
         }
     }
 
-    fn run(&mut self, script: &Script) {
+    /// `seen` is shown the system after each answer.
+    fn run(&mut self, script: &Script, seen: &mut dyn FnMut(Option<&Run>)) {
         match start(script) {
-            Err(answer) => self.answer("start ", answer, None),
+            Err(answer) => {
+                self.answer("start ", answer, None);
+                seen(None);
+            }
             Ok(mut run) => {
                 self.answer("start ", Answer { number: 0, by: By::Rust }, Some(&run));
+                seen(Some(&run));
                 for action in &script.actions {
                     let answer = run.step(action);
                     self.totals[answer.number.min(2) as usize] += 1;
                     self.answer("", answer, Some(&run));
+                    seen(Some(&run));
                 }
             }
         }
@@ -49,13 +55,23 @@ impl Report {
     }
 }
 
-pub fn report(bytes: &[u8], options: Options) -> String {
+fn reported(bytes: &[u8], options: Options, seen: &mut dyn FnMut(Option<&Run>)) -> String {
     let mut report = Report { options, text: String::new(), totals: [0; 3], facts: Facts::default() };
     match read(bytes) {
         Err(place) => format!("bad {place}\n"),
         Ok(script) => {
-            report.run(&script);
+            report.run(&script, seen);
             report.text
         }
     }
+}
+
+pub fn report(bytes: &[u8], options: Options) -> String {
+    reported(bytes, options, &mut |_| ())
+}
+
+/// The plain output; the systems are shown as they come.
+#[cfg(feature = "ours")]
+pub fn report_with(bytes: &[u8], seen: &mut dyn FnMut(Option<&Run>)) -> String {
+    reported(bytes, Options::default(), seen)
 }
