@@ -1,6 +1,6 @@
 #!/usr/bin/env bash
 # Builds the oracle and tries it: the sheet's rows; the bytes of row 12; scripts to words and back; the same script
-# from the same seed; and that the comparison tells a difference.
+# from the same seed; that the comparison tells a difference; and that the fixed list is the one that the oracle makes.
 set -euo pipefail
 cd "$(dirname "$0")"
 ./build.sh
@@ -29,4 +29,5 @@ for seed in $(seq 0 47); do
 done
 $oracle compare $oracle 0 48
 if $oracle compare cat 0 3 > $trial/cat 2>&1; then echo "a difference was not told" >&2; exit 1; fi
+$oracle list 0 1100 sheet/row*.txt sheet/ack.txt sheet/overtaken.txt sheet/storage.txt | cmp - ../crates/replay_list/data/list.bin
 echo "the oracle is as expected"

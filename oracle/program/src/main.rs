@@ -7,6 +7,7 @@ mod faults;
 mod generate;
 #[cfg(feature = "ours")]
 mod image;
+mod list;
 #[cfg(feature = "ours")]
 mod ours;
 mod random;
@@ -32,6 +33,7 @@ oracle make SEED                    the script of a seed
 oracle count FIRST COUNT            which answers the scripts of these seeds reach
 oracle compare [--states] PROGRAM FIRST COUNT
                                     runs a replay program beside the oracle on the scripts of these seeds
+oracle list FIRST COUNT [SHEET...]  scripts with their outputs, for a program to replay: the sheets', then those of these seeds
 oracle agree FIRST COUNT            the port, where it is linked in, beside the oracle: whole systems
 oracle bench                        how many actions a second the port and the Rust perform
 oracle shrink PROGRAM SEED          a smaller script on which they differ";
@@ -43,6 +45,11 @@ fn input(name: Option<&String>) -> Result<Vec<u8>, String> {
         Some(name) => std::fs::read(name).map_err(|told| format!("{name}: {told}")),
         None => std::io::stdin().read_to_end(&mut bytes).map(|_| bytes).map_err(|told| told.to_string()),
     }
+}
+
+/// The file that is named, or standard input, as text.
+fn input_text(name: Option<&String>) -> Result<String, String> {
+    String::from_utf8(input(name)?).map_err(|told| told.to_string())
 }
 
 fn output(bytes: &[u8]) -> Result<(), String> {
@@ -62,14 +69,12 @@ fn to_text(args: &[String]) -> Result<(), String> {
 }
 
 fn to_bytes(args: &[String]) -> Result<(), String> {
-    let words = String::from_utf8(input(args.first())?).map_err(|told| told.to_string())?;
-    output(&script::write(&text::parse(&words)?))
+    output(&script::write(&text::parse(&input_text(args.first())?)?))
 }
 
 fn sheets(files: &[String]) -> Result<(), String> {
     for file in files {
-        let words = String::from_utf8(input(Some(file))?).map_err(|told| told.to_string())?;
-        let lines = sheet::check(&words).map_err(|told| format!("{file}: {told}"))?;
+        let lines = sheet::check(&input_text(Some(file))?).map_err(|told| format!("{file}: {told}"))?;
         println!("{file}: {lines} lines as expected");
     }
     Ok(())
@@ -90,6 +95,12 @@ fn compare(args: &[String]) -> Result<(), String> {
     compare::compare(program(rest)?, number(rest, 1)?, number(rest, 2)?, Options { marks: false, states })
 }
 
+fn list(args: &[String]) -> Result<(), String> {
+    let files = args.get(2..).unwrap_or(&[]);
+    let sheets: Result<Vec<String>, String> = files.iter().map(|file| input_text(Some(file))).collect();
+    output(&list::list(&sheets?, number(args, 0)?, number(args, 1)?)?)
+}
+
 fn perform(args: &[String]) -> Result<(), String> {
     let rest = args.get(1..).unwrap_or(&[]);
     match args.first().map(String::as_str) {
@@ -102,6 +113,7 @@ fn perform(args: &[String]) -> Result<(), String> {
         Some("make") => output(&generate::generate(number(rest, 0)?)),
         Some("count") => compare::count(number(rest, 0)?, number(rest, 1)?),
         Some("compare") => compare(rest),
+        Some("list") => list(rest),
         #[cfg(feature = "ours")]
         Some("agree") => ours::agree(number(rest, 0)?, number(rest, 1)?),
         #[cfg(feature = "ours")]

@@ -17,10 +17,17 @@ fn grouped(output: &str) -> Vec<(String, Vec<String>)> {
     groups
 }
 
+fn expects(line: &&str) -> bool {
+    line.starts_with(['=', ':', '!'])
+}
+
+/// The script in words, without what is expected.
+pub fn words(sheet: &str) -> String {
+    sheet.lines().filter(|line| !expects(line)).map(|line| format!("{line}\n")).collect()
+}
+
 pub fn check(sheet: &str) -> Result<usize, String> {
-    let expects = |line: &&str| line.starts_with(['=', ':', '!']);
-    let words: String = sheet.lines().filter(|line| !expects(line)).map(|line| format!("{line}\n")).collect();
-    let output = report(&write(&parse(&words)?), Options { marks: false, states: true });
+    let output = report(&write(&parse(&words(sheet))?), Options { marks: false, states: true });
     let groups = grouped(&output);
     let (mut at, mut seen) = (0, 0);
     for line in sheet.lines().filter(expects) {
