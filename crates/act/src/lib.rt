@@ -23,7 +23,7 @@ ghost use Rattle.steps.specs.Views.{partView, touchedOf};
 ghost use Rattle.act.specs.Views.{PartReady};
 
 // ---- which actor an action touches
-fn target(a: Action) -> Id
+fn actor_of(a: Action) -> Id
     ensures { λ r. ⌜ r ≡ target a ⌝ }
 {
     match a {
@@ -45,7 +45,7 @@ fn known(count: usize, i: Id) -> bool
 pub fn seat(count: usize, a: Action) -> usize
     ensures { λ r. ⌜ r ≡ seat count a ⌝ }
 {
-    let i = target(a);
+    let i = actor_of(a);
     if known(count, i) {
         return i.0 as usize;
     }
