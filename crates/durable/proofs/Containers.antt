@@ -24,7 +24,7 @@ use Rattle.rules.specs.WellFormed.{pendingOk, byNumber, durableOk}
 use Rattle.durable.specs.declared.Pendings.{Pendings}
 use Rattle.durable.specs.declared.Taken.{Taken}
 use Rattle.durable.specs.declared.Durable.{Durable}
-use Rattle.durable.specs.Views.{zeroPending, pendingList, pendingsOf, otherNumber, takenList, takenOf, durableView, durableAs, blankPending, blankNumber, pendingsLaid, takenLaid, durableLaid}
+use Rattle.durable.specs.Views.{zeroPending, pendingList, pendingsOf, otherNumber, takenList, takenAs, durableView, durableAs, blankPending, blankNumber, pendingsLaid, takenLaid, durableLaid}
 
 -- ---- an array of which the first places are used and the others hold z, as a test p finds it
 pub record Laid {A : Type 0} (n : ℕ) (z : A) (es : List A) (used : ℕ) : Type 0 where
@@ -124,7 +124,7 @@ pub taken-are : (t : Taken) → length (t .last) ≡ 8 → takenLaid t ≡ true 
 unfolding takenLaid
 taken-are t n e = laid-is blankNumber untaken blank-number 8 (t .last) (t .used) n e
 
-pub taken-of : (l : List Number) → length l ≤ 8 → takenLaid (takenOf l) ≡ true
+pub taken-of : (l : List Number) → length l ≤ 8 → takenLaid (takenAs l) ≡ true
 unfolding takenLaid blankNumber
 taken-of l h = is-laid blankNumber untaken refl 8 l h
 
@@ -132,10 +132,10 @@ module _ (t : Taken) (laid : TakenLaid t) where
   held : length (takenList t) ≡ t .used
   held = laid-length 8 untaken (t .last) (t .used) (laid .fit) (laid .rest)
 
-  as-taken : (es : List Number) (u : ℕ) (l : List Number) → es ≡ pad 8 untaken l → u ≡ length l → _≡_ {A = Taken} (record { last = es; used = u }) (takenOf l)
+  as-taken : (es : List Number) (u : ℕ) (l : List Number) → es ≡ pad 8 untaken l → u ≡ length l → _≡_ {A = Taken} (record { last = es; used = u }) (takenAs l)
   as-taken es u l e f = λ i. record { last = e i; used = f i }
 
-  pub taken-same : t ≡ takenOf (takenList t)
+  pub taken-same : t ≡ takenAs (takenList t)
   taken-same = as-taken (t .last) (t .used) (takenList t) (laid .rest) (sym held)
 
   pub looked : (s : Id) → getD (t .last) (s .0) untaken ≡ lastOf s (takenList t)
@@ -147,7 +147,7 @@ module _ (t : Taken) (laid : TakenLaid t) where
   never s h = let v = held in let f = laid .fit in sym (List·getD-eq-default (takenList t) untaken {n = s .0} (omega arith))
 
   pub noted : (s : Id) (n : Number) (u : ℕ) → s .0 < 8 → u ≡ length (noteTaken s n (takenList t))
-      → _≡_ {A = Taken} (record { last = set (t .last) (s .0) n; used = u }) (takenOf (noteTaken s n (takenList t)))
+      → _≡_ {A = Taken} (record { last = set (t .last) (s .0) n; used = u }) (takenAs (noteTaken s n (takenList t)))
   unfolding noteTaken
   noted s n u h e = as-taken _ u _ (laid-write 8 untaken (t .last) (t .used) (laid .fit) (laid .rest) (s .0) n h) e
 

@@ -36,15 +36,15 @@ otherNumber n q = not (eqb (n .0) (q .number .0))
 abbrev pub takenList : Taken → List Number
 takenList t = take (t .used) (t .last)
 
-abbrev pub takenOf : List Number → Taken
-takenOf l = record { last = pad 8 rules.untaken l; used = length l }
+abbrev pub takenAs : List Number → Taken
+takenAs l = record { last = pad 8 rules.untaken l; used = length l }
 
 -- ---- the durable part, and what is stored: all zero where nothing is
 abbrev pub durableView : Durable → rules.Durable
 durableView d = record { next = d .next; pending = pendingList (d .pending); taken = takenList (d .taken); inner = d .inner }
 
 abbrev pub durableAs : rules.Durable → Durable
-durableAs d = record { next = d .next; pending = pendingsOf (d .pending); taken = takenOf (d .taken); inner = d .inner }
+durableAs d = record { next = d .next; pending = pendingsOf (d .pending); taken = takenAs (d .taken); inner = d .inner }
 
 unfoldable pub storedView : Stored → Option rules.Durable
 storedView s = choose (s .some) (some (durableView (s .durable))) none

@@ -12,9 +12,9 @@ ghost use lib.ListN.{take, drop};
 ghost use lib.Dec.{leb, eqb};
 ghost use Rattle.lists.specs.Lists.{all, chain, endsIn, lead, shrink};
 ghost use Rattle.rules.specs.Outcome.{base};
-ghost use Rattle.rules.specs.Link.{fresh, durableOf, lastOf, lastTaken, noteTaken, taking, without, acked, posting, saving};
+ghost use Rattle.rules.specs.Link.{fresh, durableOf, lastOf, lastTaken, noteTaken, withTaken, without, acked, posting, withInner};
 ghost use Rattle.rules.specs.WellFormed.{pendingOk, byNumber, durableOk};
-ghost use Rattle.durable.specs.Views.{zeroPending, pendingList, pendingsOf, otherNumber, takenList, takenOf, durableView, durableAs, storedView, blankPending, blankNumber, pendingsLaid, takenLaid, durableLaid, unsaved, blankDurable, storedLaid, durableFine, storedFine};
+ghost use Rattle.durable.specs.Views.{zeroPending, pendingList, pendingsOf, otherNumber, takenList, takenAs, durableView, durableAs, storedView, blankPending, blankNumber, pendingsLaid, takenLaid, durableLaid, unsaved, blankDurable, storedLaid, durableFine, storedFine};
 
 // Messages sent and not acked, ascending by number. Places from the used count on are zero.
 pub struct Pendings {
@@ -137,7 +137,7 @@ fn last_of(t: Taken, s: Id) -> Number
 // A number is taken from a source.
 fn note_taken(t: Taken, s: Id, n: Number) -> Taken
     requires { ⌜ (takenLaid t ≡ true) × (s .0 < 8) ⌝ }
-    ensures { λ r. ⌜ r ≡ takenOf (noteTaken s n (takenList t)) ⌝ }
+    ensures { λ r. ⌜ r ≡ takenAs (noteTaken s n (takenList t)) ⌝ }
 {
     let i = s.0 as usize;
     let used = t.used;
@@ -197,7 +197,7 @@ pub fn last_taken(d: Durable, s: Id) -> Number
 // Number n is taken from source s.
 pub fn take_number(d: Durable, s: Id, n: Number) -> Durable
     requires { ⌜ (durableLaid d ≡ true) × (s .0 < 8) ⌝ }
-    ensures { λ r. ⌜ r ≡ durableAs (taking s n (durableView d)) ⌝ }
+    ensures { λ r. ⌜ r ≡ durableAs (withTaken s n (durableView d)) ⌝ }
 {
     let t = d.taken;
     let noted = note_taken(t, s, n);
@@ -256,7 +256,7 @@ pub fn post(d: Durable, r: Id, p: Payload) -> Durable
 // The inner actor saves a value.
 pub fn save_value(d: Durable, v: u32) -> Durable
     requires { ⌜ durableLaid d ≡ true ⌝ }
-    ensures { λ r. ⌜ r ≡ durableAs (saving v (durableView d)) ⌝ }
+    ensures { λ r. ⌜ r ≡ durableAs (withInner v (durableView d)) ⌝ }
 {
     let next = d.next;
     let pending = d.pending;

@@ -11,7 +11,7 @@ use lib.Seq.{set-split, length-take-le, take-suc, take-at, drop-append-add, drop
 use mir.Syntax.{w64}
 use mir.Val as val
 use Rattle.lists.specs.Lists.{choose}
-use Rattle.rules.specs.Program.{decimal, numbers, line}
+use Rattle.rules.specs.Program.{decimal, spaced, line}
 use Rattle.text.proofs.Laws.{length-decimal}
 use Rattle.lines.specs.Pieces.{put, Fits, Room, Piece}
 
@@ -119,17 +119,17 @@ abbrev Wide : List ℕ → Type 0
 Wide [] = Unit {0}
 Wide (n ∷ l) = val.Fits w64 n × Wide l
 
-length-numbers : (l : List ℕ) → Wide l → length (numbers l) ≤ 21 * length l + 1
-unfolding numbers
+length-numbers : (l : List ℕ) → Wide l → length (spaced l) ≤ 21 * length l + 1
+unfolding spaced
 length-numbers [] h = omega arith
 length-numbers (n ∷ l) h =
     let i = length-numbers l (h .1) in
-    let e = length-append (decimal n) (numbers l) in
+    let e = length-append (decimal n) (spaced l) in
     omega (arith, length-decimal n (omega arith))
 
 pub length-line : (word l : List ℕ) → Wide l → length word + 21 * length l ≤ 79 → length (line word l) ≤ 80
 unfolding line
-length-line word l h k = omega (arith, length-append word (numbers l), length-numbers l h)
+length-line word l h k = omega (arith, length-append word (spaced l), length-numbers l h)
 
 pub room-line : {w : Bool} {at : ℕ} {l out : List ℕ} → Fits w at l out × (at ≤ 4294967296) → length l ≤ 80 → Room w at l out
 room-line p k = record { fits = p .0; small = omega (arith, p .1) }

@@ -7,7 +7,7 @@ ghost use mathlib.Core.List.{[], _∷_};
 ghost use Prim.Native.Nat.{_+_, _≤_};
 ghost use lib.ListN.{length};
 ghost use Rattle.types.specs.Answers.{answerNumber};
-ghost use Rattle.rules.specs.Program.{decimal, numbers, line, answerLine, badWord, startWord, doneWord};
+ghost use Rattle.rules.specs.Program.{decimal, spaced, line, answerLine, badWord, startWord, doneWord};
 ghost use Rattle.lines.specs.Pieces.{put, Fits, Room, Piece};
 
 const BAD: [u8; 3] = *b"bad";
@@ -60,16 +60,16 @@ fn put_number(out: &mut [u8], at: usize, write: bool, n: u64) -> usize
 
 // A line's last number, and the line feed.
 fn put_last(out: &mut [u8], at: usize, write: bool, n: u64) -> usize
-    requires { ⌜ Room write at (numbers (n ∷ [])) (now out) ⌝ }
-    ensures { λ r. ⌜ Piece write at (numbers (n ∷ [])) (now (out .entry)) r (now (out .exit)) ⌝ }
+    requires { ⌜ Room write at (spaced (n ∷ [])) (now out) ⌝ }
+    ensures { λ r. ⌜ Piece write at (spaced (n ∷ [])) (now (out .entry)) r (now (out .exit)) ⌝ }
 {
     let next = put_number(out, at, write, n);
     put_byte(out, next, write, 10)
 }
 
 fn put_last_two(out: &mut [u8], at: usize, write: bool, m: u64, n: u64) -> usize
-    requires { ⌜ Room write at (numbers (m ∷ n ∷ [])) (now out) ⌝ }
-    ensures { λ r. ⌜ Piece write at (numbers (m ∷ n ∷ [])) (now (out .entry)) r (now (out .exit)) ⌝ }
+    requires { ⌜ Room write at (spaced (m ∷ n ∷ [])) (now out) ⌝ }
+    ensures { λ r. ⌜ Piece write at (spaced (m ∷ n ∷ [])) (now (out .entry)) r (now (out .exit)) ⌝ }
 {
     let next = put_number(out, at, write, m);
     put_last(out, next, write, n)

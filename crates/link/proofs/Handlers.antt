@@ -82,9 +82,9 @@ pub after : (first cs : List LinkCommand) (c : Commands) (os : List rules.Comman
 after first cs c os e f = e ∙ ap (λ (x : List LinkCommand). commandsOf (x ++ map commandAs os)) f
 
 -- ---- the durable part of which a number was taken
-pub taking-whole : (d t : Durable) (s : Id) (n : Number) → Whole d → s .0 < 8 → t ≡ durableAs (rules.taking s n (durableView d)) → Whole t
-unfolding rules.taking rules.noteTaken
-taking-whole d t s n w h e = whole-is t (rules.taking s n (durableView d)) e (whole-pend d w) (write-length rules.untaken (s .0) n _ 8 h (whole-took d w))
+pub taken-whole : (d t : Durable) (s : Id) (n : Number) → Whole d → s .0 < 8 → t ≡ durableAs (rules.withTaken s n (durableView d)) → Whole t
+unfolding rules.withTaken rules.noteTaken
+taken-whole d t s n w h e = whole-is t (rules.withTaken s n (durableView d)) e (whole-pend d w) (write-length rules.untaken (s .0) n _ 8 h (whole-took d w))
 
 -- ---- pending messages sent again
 abbrev pub again : Pending → rules.Command
@@ -138,7 +138,7 @@ module _ (c : Limits) (i : Id) (l : rules.Link) where
   handing-ignored s n p r e = rw e
 
   pub handing-takes : (s : Id) (n : Number) (p : Payload) (r : Reply) → ignored r ≡ false
-      → bind (rules.output c i (rules.taking s n (l .durable)) (r .out)) (rules.takenBy i l s n p r) ≡ rules.handing c i l s n p r
+      → bind (rules.output c i (rules.withTaken s n (l .durable)) (r .out)) (rules.takenBy i l s n p r) ≡ rules.handing c i l s n p r
   unfolding rules.handing choose
   handing-takes s n p r e = rw e
 
@@ -222,7 +222,7 @@ saved-last cs y z os d e f =
     ∙ ap commandsOf (append-assoc cs (map commandAs os) (Save ∷ []) ∙ ap (λ (x : List LinkCommand). cs ++ x) (sym (map-append commandAs os (rules.Save d ∷ []))))
 
 -- the output of what was made of a number taken, seen as the rules say it
-pub taking-seen : (i : Id) (l : Link) (s : Id) (n : Number) (r : Reaction) (t : Durable) (cs : List LinkCommand) (y : Output) → t ≡ durableAs (rules.taking s n (durableView (l .durable)))
-    → y ≡ outputAs cs (rules.output (base .limits) i (durableView t) (replyOf r .out)) → y ≡ outputAs cs (rules.output (base .limits) i (rules.taking s n (durableView (l .durable))) (replyOf r .out))
-taking-seen i l s n r t cs y e f =
-    f ∙ ap (λ (d : rules.Durable). outputAs cs (rules.output (base .limits) i d (replyOf r .out))) (ap durableView e ∙ durable-back (rules.taking s n (durableView (l .durable))))
+pub taken-seen : (i : Id) (l : Link) (s : Id) (n : Number) (r : Reaction) (t : Durable) (cs : List LinkCommand) (y : Output) → t ≡ durableAs (rules.withTaken s n (durableView (l .durable)))
+    → y ≡ outputAs cs (rules.output (base .limits) i (durableView t) (replyOf r .out)) → y ≡ outputAs cs (rules.output (base .limits) i (rules.withTaken s n (durableView (l .durable))) (replyOf r .out))
+taken-seen i l s n r t cs y e f =
+    f ∙ ap (λ (d : rules.Durable). outputAs cs (rules.output (base .limits) i d (replyOf r .out))) (ap durableView e ∙ durable-back (rules.withTaken s n (durableView (l .durable))))

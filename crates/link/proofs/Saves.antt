@@ -68,11 +68,11 @@ module _ (c : Limits) (i : Id) where
   process-alike d [] = holds-done (λ e. alike-nil e)
   process-alike d (inner.SetTimer t ∷ os) = holds-bind _ _ (process-alike d os) (λ o z. holds-done (λ e. alike-set e t _ (z e)))
   process-alike d (inner.CancelTimer t ∷ os) = holds-bind _ _ (process-alike d os) (λ o z. holds-done (λ e. alike-cancel e t _ (z e)))
-  process-alike d (inner.Save v ∷ os) = process-alike (rules.saving v d) os
+  process-alike d (inner.Save v ∷ os) = process-alike (rules.withInner v d) os
   process-alike d (inner.Send r p ∷ os) = holds-guard _ _ _ (λ a. holds-guard _ _ _ (λ b. holds-bind _ _ (process-alike (rules.posting r p d) os) (λ o z. holds-done (λ e. alike-send e r _ _ (z e)))))
 
   output-alike : (d : rules.Durable) (os : List InnerCommand) → Holds (λ o. Alike (o .durable) (o .commands)) (rules.output c i d os)
-  unfolding rules.output rules.saved choose
+  unfolding rules.output rules.thenSave choose
   output-alike d os = holds-bind _ _ (process-alike d os) (λ o z. holds-done (alike-append (o .durable) _ _ (z (o .durable)) (last (o .durable) (any rules.durably os))))
     where
       last : (e : rules.Durable) (b : Bool) → Alike e (choose b (rules.Save e ∷ []) [])

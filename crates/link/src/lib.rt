@@ -147,7 +147,7 @@ fn ack_only(l: Link, s: Id, n: Number) -> Did
 // Message n of s is taken: its Ack first, the output, and the durable part saved.
 fn take_message(l: Link, s: Id, n: Number, r: Reaction) -> Did
     requires { ⌜ Whole (l .durable) × (s .0 < 8) × (r .used ≤ 4) ⌝ }
-    ensures { λ x. ⌜ ((i : Id) (p : Payload) → x ≡ didAs l (bind (rules.output (base .limits) i (rules.taking s n (durableView (l .durable))) (replyOf r .out)) (rules.takenBy i (linkView l) s n p (replyOf r)))) ⌝ }
+    ensures { λ x. ⌜ ((i : Id) (p : Payload) → x ≡ didAs l (bind (rules.output (base .limits) i (rules.withTaken s n (durableView (l .durable))) (replyOf r .out)) (rules.takenBy i (linkView l) s n p (replyOf r)))) ⌝ }
 {
     let d = l.durable;
     let t = take_number(d, s, n);

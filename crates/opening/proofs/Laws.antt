@@ -13,7 +13,7 @@ use Rattle.lists.proofs.Members.{and-make, every-cons, every-make, every-nil}
 use Rattle.lists.proofs.Walks.{all-map, map-back}
 use Rattle.types.specs.declared.Envelope.{Envelope}
 use Rattle.types.specs.declared.Rule.{Rule}
-use Rattle.layout.specs.Form.{done}
+use Rattle.layout.specs.Form.{filled}
 use Rattle.layout.specs.Read.{read, badAt, Reader, one, onward, joining, repeat}
 use Rattle.rules.specs.Outcome.{guard, base}
 use Rattle.rules.specs.Start.{blank, start}
@@ -62,7 +62,7 @@ module _ (v : Version) (xs : List ℕ) (p : ℕ) where
   unfolding headerForm
   few-actors h =
       one-gives (λ (x : Header). x .actors ≤ 8) (headerForm v) xs p
-      (λ n k a z. only-gives (λ (x : Header). x .actors ≤ 8) (every (eqb n (v .version) ∷ leb k 2 ∷ leb 1 a ∷ leb a 8 ∷ eqb z 0 ∷ [])) (done (record { kind = k; actors = a })) (λ e.
+      (λ n k a z. only-gives (λ (x : Header). x .actors ≤ 8) (every (eqb n (v .version) ∷ leb k 2 ∷ leb 1 a ∷ leb a 8 ∷ eqb z 0 ∷ [])) (filled (record { kind = k; actors = a })) (λ e.
       leb-true a 8 (every-cons _ _ (every-cons _ _ (every-cons _ _ (every-cons _ _ e .1) .1) .1) .0)))
       h
 

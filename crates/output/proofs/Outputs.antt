@@ -157,7 +157,7 @@ module _ (c : Limits) (i : Id) where
   unfolding rules.process rules.also bind guard joined rest
   process-cons d (inner.SetTimer t) os = refl
   process-cons d (inner.CancelTimer t) os = refl
-  process-cons d (inner.Save v) os = bind-done (rules.process c i (rules.saving v d) os)
+  process-cons d (inner.Save v) os = bind-done (rules.process c i (rules.withInner v d) os)
   process-cons d (inner.Send r p) os = go (ltb (d .next .0) (c .numbers)) (ltb (length (d .pending)) (c .pending))
     where
       x : rules.Command
@@ -179,18 +179,18 @@ module _ (c : Limits) (i : Id) where
     pub few : length (o .commands) ≤ n
 
   pub process-small : (d : rules.Durable) (os : List InnerCommand) → c .pending ≤ 32 → length (d .pending) ≤ 32 → length (d .taken) ≤ 8 → Holds (Small (length os)) (rules.process c i d os)
-  unfolding rules.process rules.also rules.saving rules.posting
+  unfolding rules.process rules.also rules.withInner rules.posting
   process-small d [] l h k = holds-done (record { pend = h; took = k; few = zero-le })
   process-small d (inner.SetTimer t ∷ os) l h k = holds-bind _ _ (process-small d os l h k) (λ o z. holds-done (record { pend = z .pend; took = z .took; few = let y = z .few in omega arith }))
   process-small d (inner.CancelTimer t ∷ os) l h k = holds-bind _ _ (process-small d os l h k) (λ o z. holds-done (record { pend = z .pend; took = z .took; few = let y = z .few in omega arith }))
-  process-small d (inner.Save v ∷ os) l h k = holds-map (process-small (rules.saving v d) os l h k) (λ o z. record { pend = z .pend; took = z .took; few = let y = z .few in omega arith })
+  process-small d (inner.Save v ∷ os) l h k = holds-map (process-small (rules.withInner v d) os l h k) (λ o z. record { pend = z .pend; took = z .took; few = let y = z .few in omega arith })
   process-small d (inner.Send r p ∷ os) l h k = holds-guard _ _ _ (λ a. holds-guard _ _ _ (λ b.
       let f = ltb-true (length (d .pending)) (c .pending) b in
       holds-bind _ _ (process-small (rules.posting r p d) os l (omega (arith, length-append (d .pending) (rules.numbered d r p ∷ []))) k)
       (λ o z. holds-done (record { pend = z .pend; took = z .took; few = let y = z .few in omega arith }))))
 
   pub output-small : (d : rules.Durable) (os : List InnerCommand) → c .pending ≤ 32 → length (d .pending) ≤ 32 → length (d .taken) ≤ 8 → Holds (Small (suc (length os))) (rules.output c i d os)
-  unfolding rules.output rules.saved choose
+  unfolding rules.output rules.thenSave choose
   output-small d os l h k = holds-bind _ _ (process-small d os l h k) (λ o z. holds-done (record { pend = z .pend; took = z .took; few = more o (any rules.durably os) (z .few) }))
     where
       more : (o : rules.Output) (b : Bool) → length (o .commands) ≤ length os → length (o .commands ++ choose b (rules.Save (o .durable) ∷ []) []) ≤ suc (length os)
@@ -278,11 +278,11 @@ module _ (c : Limits) (i : Id) (cs : List LinkCommand) (d : rules.Durable) (os :
   unfolding rules.output bind
   output-stops g =
       let h = halted cs (rules.process c i d os) y e g in
-      e ∙ ap (outputAs cs) (h .1) ∙ ap (outputAs cs) (sym (ap (λ (m : Outcome rules.Output). bind m (rules.saved (any rules.durably os))) (h .1)))
+      e ∙ ap (outputAs cs) (h .1) ∙ ap (outputAs cs) (sym (ap (λ (m : Outcome rules.Output). bind m (rules.thenSave (any rules.durably os))) (h .1)))
 
   output-done : (w : Went cs (rules.process c i d os) y) (b : Bool) → any rules.durably os ≡ b
       → rules.output c i d os ≡ done (record { durable = w .out .durable; commands = w .out .commands ++ choose b (rules.Save (w .out .durable) ∷ []) []; events = w .out .events })
-  unfolding rules.output rules.saved bind
+  unfolding rules.output rules.thenSave bind
   output-done w b f = rw (w .is, f)
 
   pub output-saves : y .going ≡ true → any rules.durably os ≡ true → (z : Commands) → z ≡ commandsOf (commandsIn (y .commands) ++ Save ∷ [])

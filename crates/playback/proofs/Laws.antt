@@ -21,7 +21,7 @@ use Rattle.rules.specs.Start.{blank, boot, start}
 use Rattle.rules.specs.Run.{answer, after, totals}
 use Rattle.rules.specs.WellFormed.{wellFormed}
 use Rattle.rules.specs.Script.{version1, readScript, actionsFrom}
-use Rattle.rules.specs.Program.{badWord, startWord, doneWord, line, size, startLine, doneLine, runLines, told, output}
+use Rattle.rules.specs.Program.{badWord, startWord, doneWord, line, size, startLine, doneLine, runLines, replayed, replay}
 use Rattle.rules.proofs.Laws.{Holds}
 use Rattle.rules.proofs.Answers.{startNumbers, start-answers, start-done}
 use Rattle.rules.proofs.Formed.{start-well}
@@ -69,8 +69,8 @@ module _ (s : List ℕ) (p : Parts version1 s) where
   abbrev pub m : Outcome Next
   m = start base (p .script .kind) (p .script .tables) (p .script .envelopes)
 
-  pub said : output base version1 s ≡ startLine m ++ runLines base m (p .script .actions)
-  unfolding output told
+  pub said : replay base version1 s ≡ startLine m ++ runLines base m (p .script .actions)
+  unfolding replay replayed
   said = rw (p .reads)
 
   pub begun : (r : Answered) → r ≡ answeredOf (systemOf blank) (systems m) → Begun m r
@@ -107,7 +107,7 @@ then-ends (ran x d e f g) h l = absurd (true≢false (sym d ∙ h))
 then-ends (not-ran n d e f) h l = refl
 
 -- ---- the start's line, then the others
-module _ (s : List ℕ) (p : Parts version1 s) (r : Answered) (b : Begun (m s p) r) (write : Bool) (out : List ℕ) (room : Fits write 0 (output base version1 s) out)
+module _ (s : List ℕ) (p : Parts version1 s) (r : Answered) (b : Begun (m s p) r) (write : Bool) (out : List ℕ) (room : Fits write 0 (replay base version1 s) out)
     (n k : ℕ) (en : n ≡ answerNumber (r .answer)) (ek : k ≡ len (netView (r .system .network) .entries)) where
   abbrev others : List ℕ
   others = runLines base (m s p) (p .script .actions)
@@ -119,7 +119,7 @@ module _ (s : List ℕ) (p : Parts version1 s) (r : Answered) (b : Begun (m s p)
   unfolding startLine
   first-is = λ i. line startWord ((en ∙ number-is b) i ∷ (ek ∙ size-is b) i ∷ [])
 
-  all-is : output base version1 s ≡ first ++ others
+  all-is : replay base version1 s ≡ first ++ others
   all-is = said s p ∙ ap (λ (l : List ℕ). l ++ others) (sym first-is)
 
   all-fits : Fits write 0 (first ++ others) out
@@ -132,14 +132,14 @@ module _ (s : List ℕ) (p : Parts version1 s) (r : Answered) (b : Begun (m s p)
     others-fit : Fits write at others mid
     others-fit = fits-then first others all-fits q
 
-    joined : {l left : List ℕ} {e : ℕ} → others ≡ l → Piece write at l mid e left → Piece write 0 (output base version1 s) out e left
+    joined : {l left : List ℕ} {e : ℕ} → others ≡ l → Piece write at l mid e left → Piece write 0 (replay base version1 s) out e left
     joined {l} {left} {e} h t = subst (λ (x : List ℕ). Piece write 0 x out e left) (sym all-is) (piece-then first others all-fits q (subst (λ (x : List ℕ). Piece write at x mid e left) (sym h) t))
 
     -- a refused start
     pub ends-fit : isDone (r .answer) ≡ false → Fits write at (line doneWord (0 ∷ 0 ∷ 0 ∷ [])) mid
     ends-fit h = subst (λ (l : List ℕ). Fits write at l mid) (then-ends b h (p .script .actions)) others-fit
 
-    pub ends-all : isDone (r .answer) ≡ false → {left : List ℕ} {e : ℕ} → Piece write at (line doneWord (0 ∷ 0 ∷ 0 ∷ [])) mid e left → Piece write 0 (output base version1 s) out e left
+    pub ends-all : isDone (r .answer) ≡ false → {left : List ℕ} {e : ℕ} → Piece write at (line doneWord (0 ∷ 0 ∷ 0 ∷ [])) mid e left → Piece write 0 (replay base version1 s) out e left
     ends-all h t = joined (then-ends b h (p .script .actions)) t
 
     -- a start that is done
@@ -155,7 +155,7 @@ module _ (s : List ℕ) (p : Parts version1 s) (r : Answered) (b : Begun (m s p)
       small = small;
     }
 
-    pub runs-all : isDone (r .answer) ≡ true → {left : List ℕ} {e : ℕ} → Piece write at (runText (sysView (r .system)) (p .script .actions)) mid e left → Piece write 0 (output base version1 s) out e left
+    pub runs-all : isDone (r .answer) ≡ true → {left : List ℕ} {e : ℕ} → Piece write at (runText (sysView (r .system)) (p .script .actions)) mid e left → Piece write 0 (replay base version1 s) out e left
     runs-all h t = joined (then-runs b h (p .script .actions)) t
 
 -- A good layout is no longer than a script may be, and its output no longer than the bound.
@@ -167,22 +167,22 @@ good-short s e = go (leb (length s) 65536) refl
     go true h = leb-true (length s) 65536 h
     go false h = let f : layout.Bad 0 ≡ layout.Good = rw h at e in let z : _≡_ {A = ℕ} 0 1 = cc in absurd (omega arith)
 
-pub good-longest : (s : List ℕ) (p : Parts version1 s) → length s ≤ 65536 → length (output base version1 s) ≤ longest (length s)
+pub good-longest : (s : List ℕ) (p : Parts version1 s) → length s ≤ 65536 → length (replay base version1 s) ≤ longest (length s)
 good-longest s p h =
     subst (λ (l : List ℕ). length l ≤ longest (length s)) (sym (said s p))
     (whole-short (m s p) s (p .actions) (p .script .actions) (start-well base (p .script .kind) (p .script .tables) (p .script .envelopes)) (start-answers base (p .script .kind) (p .script .tables) (p .script .envelopes)) h (p .readsActions))
 
 -- ---- a script whose layout is bad
-said-bad : (s : List ℕ) (p : ℕ) → layoutOf (readScript version1 s) ≡ layout.Bad p → output base version1 s ≡ line badWord (p ∷ [])
-unfolding output told
+said-bad : (s : List ℕ) (p : ℕ) → layoutOf (readScript version1 s) ≡ layout.Bad p → replay base version1 s ≡ line badWord (p ∷ [])
+unfolding replay replayed
 said-bad s p e = go (readScript version1 s) e
   where
-    go : (x : Reading _) → layoutOf x ≡ layout.Bad p → told base x ≡ line badWord (p ∷ [])
+    go : (x : Reading _) → layoutOf x ≡ layout.Bad p → replayed base x ≡ line badWord (p ∷ [])
     go (read a ys q) h = let z : _≡_ {A = ℕ} 0 1 = cc in absurd (omega arith)
     go (badAt q) h = let z : q ≡ p = cc in rw z
 
 -- ---- the buffer
-pub told-bad : (s : List ℕ) (p : ℕ) {out left : List ℕ} {r : ℕ} → layoutOf (readScript version1 s) ≡ layout.Bad p → Told (line badWord (p ∷ [])) out r left → Told (output base version1 s) out r left
+pub told-bad : (s : List ℕ) (p : ℕ) {out left : List ℕ} {r : ℕ} → layoutOf (readScript version1 s) ≡ layout.Bad p → Told (line badWord (p ∷ [])) out r left → Told (replay base version1 s) out r left
 told-bad s p {out} {left} {r} e t = subst (λ (l : List ℕ). Told l out r left) (sym (said-bad s p e)) t
 
 pub told-all : {l out left : List ℕ} {r : ℕ} → Piece true 0 l out r left → length l ≤ length out → Told l out r left

@@ -21,7 +21,7 @@ use Rattle.rules.specs.Start.{blank, boot}
 use Rattle.rules.specs.Run.{step, answer, after, answers, Totals, counted, totals}
 use Rattle.rules.specs.WellFormed.{wellFormed}
 use Rattle.rules.specs.Script.{version1, actionsFrom}
-use Rattle.rules.specs.Program.{decimal, numbers, line, answerLine, size, actionLines, doneLine, startLine, runLines}
+use Rattle.rules.specs.Program.{decimal, spaced, line, answerLine, size, actionLines, doneLine, startLine, runLines}
 use Rattle.rules.proofs.Answers.{act-answers, formed-step, stepNumbers, startNumbers, step-keeps}
 use Rattle.rules.proofs.Laws.{Holds}
 use Rattle.text.proofs.Laws.{length-small, length-decimal}
@@ -72,7 +72,7 @@ answer-small m a w = subst (λ (o : Outcome Next). answer o < 10) (sym (formed-s
         omega (arith, eqb-true n (x .0) (x .2), leb-true (x .0) 9 y)
 
 line-short : (k n : ℕ) → k < 10 → n < 18446744073709551616 → length (answerLine k n) ≤ 23
-unfolding answerLine line numbers
+unfolding answerLine line spaced
 line-short k n h g =
     let a = length-append (decimal k) (32 ∷ (decimal n ++ 10 ∷ [])) in
     let b = length-append (decimal n) (10 ∷ []) in
@@ -88,12 +88,12 @@ lines-short m (a ∷ l) w =
     omega (arith, e, line-short (answer (step base m a)) (size n) (answer-small m a w) (size-small n v), lines-short n l v)
 
 -- ---- the totals
-sum-is : (l : List ℕ) → totals l .next + totals l .ignored + totals l .refused ≡ length l
+sum-is : (l : List ℕ) → totals l .nextCount + totals l .ignoredCount + totals l .refusedCount ≡ length l
 unfolding totals counted
 sum-is [] = refl
 sum-is (n ∷ l) = go n (totals l) ∙ ap suc (sum-is l)
   where
-    go : (n : ℕ) (t : Totals) → counted n t .next + counted n t .ignored + counted n t .refused ≡ suc (t .next + t .ignored + t .refused)
+    go : (n : ℕ) (t : Totals) → counted n t .nextCount + counted n t .ignoredCount + counted n t .refusedCount ≡ suc (t .nextCount + t .ignoredCount + t .refusedCount)
     go zero t = omega arith
     go (suc zero) t = omega arith
     go (suc (suc n)) t = omega arith

@@ -16,7 +16,7 @@ ghost use lib.Dec.{leb};
 ghost use Rattle.lists.specs.Lists.{choose};
 ghost use Rattle.rules.specs.Outcome.{base};
 ghost use Rattle.rules.specs.Script.{version1, readScript};
-ghost use Rattle.rules.specs.Program.{line, badWord, output};
+ghost use Rattle.rules.specs.Program.{line, badWord, replay};
 ghost use Rattle.script.specs.declared.Layout.the-variants.{Good};
 ghost use Rattle.script.specs.Views.{layoutOf};
 ghost use Rattle.lines.specs.Pieces.{Fits, Piece};
@@ -24,8 +24,8 @@ ghost use Rattle.playback.specs.Views.{longest, Told};
 
 // A script whose layout is good: the start, and if it is done the run.
 fn tell_run(script: &[u8], out: &mut [u8], write: bool) -> usize
-    requires { ⌜ (layoutOf (readScript version1 (now script)) ≡ Good) × Fits write 0 (output base version1 (now script)) (now out) ⌝ }
-    ensures { λ r. ⌜ Piece write 0 (output base version1 (now (script .entry))) (now (out .entry)) r (now (out .exit)) ⌝ }
+    requires { ⌜ (layoutOf (readScript version1 (now script)) ≡ Good) × Fits write 0 (replay base version1 (now script)) (now out) ⌝ }
+    ensures { λ r. ⌜ Piece write 0 (replay base version1 (now (script .entry))) (now (out .entry)) r (now (out .exit)) ⌝ }
 {
     let o = open(script);
     let from = o.next;
@@ -53,7 +53,7 @@ fn room_for(bytes: usize) -> usize
 // Where the buffer is long enough for any script of this length, the output is not measured first.
 fn put_run(script: &[u8], out: &mut [u8]) -> usize
     requires { ⌜ layoutOf (readScript version1 (now script)) ≡ Good ⌝ }
-    ensures { λ r. ⌜ Told (output base version1 (now (script .entry))) (now (out .entry)) r (now (out .exit)) ⌝ }
+    ensures { λ r. ⌜ Told (replay base version1 (now (script .entry))) (now (out .entry)) r (now (out .exit)) ⌝ }
 {
     if room_for(script.len()) <= out.len() {
         return tell_run(script, out, true);
@@ -78,8 +78,8 @@ fn put_bad(out: &mut [u8], place: usize) -> usize
 
 // Answers how long the output is. It stands at the start of the buffer if it fits there; else nothing was written.
 pub fn replay(script: &[u8], out: &mut [u8]) -> usize
-    ensures size { λ r. ⌜ r ≡ length (output base version1 (now (script .entry))) ⌝ }
-    ensures bytes { λ r. ⌜ now (out .exit) ≡ choose (leb r (length (now (out .entry)))) (output base version1 (now (script .entry)) ++ drop r (now (out .entry))) (now (out .entry)) ⌝ }
+    ensures size { λ r. ⌜ r ≡ length (replay base version1 (now (script .entry))) ⌝ }
+    ensures bytes { λ r. ⌜ now (out .exit) ≡ choose (leb r (length (now (out .entry)))) (replay base version1 (now (script .entry)) ++ drop r (now (out .entry))) (now (out .entry)) ⌝ }
 {
     let layout = check_script(script);
     match layout {

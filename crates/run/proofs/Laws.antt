@@ -20,7 +20,7 @@ use Rattle.rules.specs.Network.{len}
 use Rattle.rules.specs.System as rules
 use Rattle.rules.specs.Run.{step, answer, after, answers, Totals, counted, totals}
 use Rattle.rules.specs.WellFormed.{wellFormed}
-use Rattle.rules.specs.Script.{Version, version1, Item, end, act, actionForm, actionsFrom}
+use Rattle.rules.specs.Script.{Version, version1, Item, end, item, actionForm, actionsFrom}
 use Rattle.rules.specs.Program.{answerLine, size, actionLines, doneLine, line, doneWord}
 use Rattle.rules.proofs.Laws.{Holds}
 use Rattle.rules.proofs.Answers.{act-answers, formed-step, stepNumbers}
@@ -50,20 +50,20 @@ use Rattle.run.specs.Views.{runText, totalsIn, tallyOf, tallied, Runs}
 
 -- ---- totals
 abbrev plus : Totals → Totals → Totals
-plus t u = record { next = t .next + u .next; ignored = t .ignored + u .ignored; refused = t .refused + u .refused }
+plus t u = record { nextCount = t .nextCount + u .nextCount; ignoredCount = t .ignoredCount + u .ignoredCount; refusedCount = t .refusedCount + u .refusedCount }
 
 plus-counted : (k : ℕ) (t u : Totals) → plus t (counted k u) ≡ plus (counted k t) u
 unfolding counted
-plus-counted zero t u = let e : t .next + suc (u .next) ≡ suc (t .next) + u .next = omega arith in λ i. record { next = e i; ignored = t .ignored + u .ignored; refused = t .refused + u .refused }
-plus-counted (suc zero) t u = let e : t .ignored + suc (u .ignored) ≡ suc (t .ignored) + u .ignored = omega arith in λ i. record { next = t .next + u .next; ignored = e i; refused = t .refused + u .refused }
-plus-counted (suc (suc k)) t u = let e : t .refused + suc (u .refused) ≡ suc (t .refused) + u .refused = omega arith in λ i. record { next = t .next + u .next; ignored = t .ignored + u .ignored; refused = e i }
+plus-counted zero t u = let e : t .nextCount + suc (u .nextCount) ≡ suc (t .nextCount) + u .nextCount = omega arith in λ i. record { nextCount = e i; ignoredCount = t .ignoredCount + u .ignoredCount; refusedCount = t .refusedCount + u .refusedCount }
+plus-counted (suc zero) t u = let e : t .ignoredCount + suc (u .ignoredCount) ≡ suc (t .ignoredCount) + u .ignoredCount = omega arith in λ i. record { nextCount = t .nextCount + u .nextCount; ignoredCount = e i; refusedCount = t .refusedCount + u .refusedCount }
+plus-counted (suc (suc k)) t u = let e : t .refusedCount + suc (u .refusedCount) ≡ suc (t .refusedCount) + u .refusedCount = omega arith in λ i. record { nextCount = t .nextCount + u .nextCount; ignoredCount = t .ignoredCount + u .ignoredCount; refusedCount = e i }
 
 plus-none : (t : Totals) → plus t (totals []) ≡ t
 unfolding totals
-plus-none t = let a : t .next + 0 ≡ t .next = omega arith in let b : t .ignored + 0 ≡ t .ignored = omega arith in let c : t .refused + 0 ≡ t .refused = omega arith in λ i. record { next = a i; ignored = b i; refused = c i }
+plus-none t = let a : t .nextCount + 0 ≡ t .nextCount = omega arith in let b : t .ignoredCount + 0 ≡ t .ignoredCount = omega arith in let c : t .refusedCount + 0 ≡ t .refusedCount = omega arith in λ i. record { nextCount = a i; ignoredCount = b i; refusedCount = c i }
 
-none-plus : (t : Totals) → t ≡ plus (record { next = 0; ignored = 0; refused = 0 }) t
-none-plus t = let a : t .next ≡ 0 + t .next = omega arith in let b : t .ignored ≡ 0 + t .ignored = omega arith in let c : t .refused ≡ 0 + t .refused = omega arith in λ i. record { next = a i; ignored = b i; refused = c i }
+none-plus : (t : Totals) → t ≡ plus (record { nextCount = 0; ignoredCount = 0; refusedCount = 0 }) t
+none-plus t = let a : t .nextCount ≡ 0 + t .nextCount = omega arith in let b : t .ignoredCount ≡ 0 + t .ignoredCount = omega arith in let c : t .refusedCount ≡ 0 + t .refusedCount = omega arith in λ i. record { nextCount = a i; ignoredCount = b i; refusedCount = c i }
 
 -- one more in all
 pub sum-counted : (k : ℕ) (t : Tally) → tallied k t .next + tallied k t .ignored + tallied k t .refused ≡ suc (t .next + t .ignored + t .refused)
@@ -90,7 +90,7 @@ tallied-more (suc (suc n)) t e f = let w : t .refused + 1 ≡ suc (t .refused) =
 abbrev pub restText : rules.Sys → Totals → List Action → List ℕ
 restText m t l = actionLines base m l ++ doneLine (plus t (totals (answers base m l)))
 
-rest-start : (m : rules.Sys) (l : List Action) → runText m l ≡ restText m (record { next = 0; ignored = 0; refused = 0 }) l
+rest-start : (m : rules.Sys) (l : List Action) → runText m l ≡ restText m (record { nextCount = 0; ignoredCount = 0; refusedCount = 0 }) l
 unfolding runText
 rest-start m l = ap (λ (t : Totals). actionLines base m l ++ doneLine t) (none-plus (totals (answers base m l)))
 
@@ -103,7 +103,7 @@ rest-next m t a l =
     append-assoc (answerLine k (size n)) (actionLines base n l) (doneLine (plus t (counted k (totals (answers base n l)))))
     ∙ ap (λ (u : Totals). answerLine k (size n) ++ (actionLines base n l ++ doneLine u)) (plus-counted k t (totals (answers base n l)))
 
-pub rest-end : (m : rules.Sys) (t : Totals) → restText m t [] ≡ line doneWord (t .next ∷ t .ignored ∷ t .refused ∷ [])
+pub rest-end : (m : rules.Sys) (t : Totals) → restText m t [] ≡ line doneWord (t .nextCount ∷ t .ignoredCount ∷ t .refusedCount ∷ [])
 unfolding actionLines answers doneLine
 rest-end m t = ap doneLine (plus-none t)
 

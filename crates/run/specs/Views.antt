@@ -24,10 +24,10 @@ runText m l = actionLines base m l ++ doneLine (totals (answers base m l))
 
 -- The rules' totals that the struct holds, and back.
 abbrev pub totalsIn : Tally → Totals
-totalsIn t = record { next = t .next; ignored = t .ignored; refused = t .refused }
+totalsIn t = record { nextCount = t .next; ignoredCount = t .ignored; refusedCount = t .refused }
 
 abbrev pub tallyOf : Totals → Tally
-tallyOf t = record { next = t .next; ignored = t .ignored; refused = t .refused }
+tallyOf t = record { next = t .nextCount; ignored = t .ignoredCount; refused = t .refusedCount }
 
 abbrev pub tallied : ℕ → Tally → Tally
 tallied n t = tallyOf (counted n (totalsIn t))

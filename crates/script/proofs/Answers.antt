@@ -7,16 +7,16 @@ use mathlib.Core.List.{List}
 use Rattle.layout.specs.Form.{Got, got, bad, recordOf}
 use Rattle.types.specs.declared.Envelope.{Envelope}
 use Rattle.types.specs.declared.Rule.{Rule}
-use Rattle.rules.specs.Script.{Header, ruleForm, Item, end, act}
-use Rattle.records.specs.Views.{headerRead, countRead, ruleRead, envelopeRead, takenOf}
+use Rattle.rules.specs.Script.{Header, ruleForm, Item, end, item}
+use Rattle.records.specs.Views.{headerRead, countRead, ruleRead, envelopeRead, actionRead}
 use Rattle.records.specs.declared.HeaderRead.{HeaderRead}
 use Rattle.records.specs.declared.HeaderRead.the-variants as header
 use Rattle.records.specs.declared.CountRead.{CountRead}
 use Rattle.records.specs.declared.CountRead.the-variants as count
 use Rattle.records.specs.declared.EnvelopeRead.{EnvelopeRead}
 use Rattle.records.specs.declared.EnvelopeRead.the-variants as envelope
-use Rattle.records.specs.declared.Taken.{Taken}
-use Rattle.records.specs.declared.Taken.the-variants as taken
+use Rattle.records.specs.declared.ActionRead.{ActionRead}
+use Rattle.records.specs.declared.ActionRead.the-variants as action
 use Rattle.script.specs.declared.Phase.{Phase}
 use Rattle.script.specs.declared.Phase.the-variants as phase
 use Rattle.script.specs.declared.Next.{Next}
@@ -48,15 +48,15 @@ pub envelope-next : (q : Phase) (g : Got Envelope) → envelopeNext q (envelopeR
 envelope-next q (got e n) = refl
 envelope-next q bad = refl
 
-abbrev pub takenNext : Taken → Next
-takenNext (taken.Act a n) = On phase.Action n
-takenNext (taken.End n) = End n
-takenNext taken.Bad = Bad
+abbrev pub actionNext : ActionRead → Next
+actionNext (action.Act a n) = On phase.Action n
+actionNext (action.End n) = End n
+actionNext action.Bad = Bad
 
-pub taken-next : (g : Got Item) → takenNext (takenOf g) ≡ itemStep g
-taken-next (got end n) = refl
-taken-next (got (act a) n) = refl
-taken-next bad = refl
+pub action-next : (g : Got Item) → actionNext (actionRead g) ≡ itemStep g
+action-next (got end n) = refl
+action-next (got (item a) n) = refl
+action-next bad = refl
 
 -- a rule without bytes is bad
 abbrev pub sizeNext : Phase → ℕ → Next

@@ -15,7 +15,7 @@ use Rattle.types.specs.declared.Rule.{Rule}
 use Rattle.records.proofs.Laws.{Sized, sized}
 use Rattle.types.specs.declared.Envelope.{Envelope}
 use Rattle.types.specs.declared.Action.{Action}
-use Rattle.rules.specs.Script.{Version, Header, headerForm, ruleCountForm, ruleForm, envelopeCountForm, envelopeForm, Item, end, act, actionKinds, actionForm, takeAction, Script, tableFrom, envelopesFrom, closed, afterItem, actionsWithin, actionsFrom, scriptFrom, readScript}
+use Rattle.rules.specs.Script.{Version, Header, headerForm, ruleCountForm, ruleForm, envelopeCountForm, envelopeForm, Item, end, item, actionKinds, actionForm, takeAction, Script, tableFrom, envelopesFrom, closed, afterItem, actionsWithin, actionsFrom, scriptFrom, readScript}
 use Rattle.script.specs.declared.Layout.{Layout}
 use Rattle.script.specs.declared.Layout.the-variants as layout
 use Rattle.script.specs.declared.Phase.{Phase}
@@ -91,7 +91,7 @@ item-size
     : (xs : List ℕ) (f : Form Item) (g : Got Item) {q : Phase} {n : ℕ} → Sized xs f → recordOf f xs ≡ g → itemStep g ≡ On q n → (1 ≤ n) × (n ≤ length xs)
 item-size xs f (got end m) {q} {n} s h e =
     let z : _≡_ {A = ℕ} 0 1 = cc in absurd (omega arith)
-item-size xs f (got (act a) m) {q} {n} s h e =
+item-size xs f (got (item a) m) {q} {n} s h e =
     let z : m ≡ n = cc in
     let r = s _ _ h in
     (omega (arith, r .0), omega (arith, r .1))
@@ -101,7 +101,7 @@ item-size xs f bad {q} {n} s h e =
 item-end : (xs : List ℕ) (f : Form Item) (g : Got Item) {n : ℕ} → Sized xs f → recordOf f xs ≡ g → itemStep g ≡ End n → n ≤ length xs
 item-end xs f (got end m) {n} s h e =
     let z : m ≡ n = cc in omega (arith, s _ _ h .1)
-item-end xs f (got (act a) m) {n} s h e =
+item-end xs f (got (item a) m) {n} s h e =
     let z : _≡_ {A = ℕ} 0 1 = cc in absurd (omega arith)
 item-end xs f bad {n} s h e =
     let z : _≡_ {A = ℕ} 0 1 = cc in absurd (omega arith)
@@ -113,11 +113,11 @@ module _ (v : Version) where
 
   -- ---- actions
   same-item
-      : (xs : List ℕ) (p : ℕ) (g : Got Item) (f h : Reader (List Action)) → ((a : Action) (n : ℕ) → g ≡ got (act a) n → f (drop n xs) (p + n) ≡ h (drop n xs) (p + n))
+      : (xs : List ℕ) (p : ℕ) (g : Got Item) (f h : Reader (List Action)) → ((a : Action) (n : ℕ) → g ≡ got (item a) n → f (drop n xs) (p + n) ≡ h (drop n xs) (p + n))
       → onward (placed g xs p) (λ i. afterItem i f) ≡ onward (placed g xs p) (λ i. afterItem i h)
   unfolding onward placed afterItem
   same-item xs p (got end n) f h e = refl
-  same-item xs p (got (act a) n) f h e = ap (λ (m : Reading (List Action)). onward m (joining a)) (e a n refl)
+  same-item xs p (got (item a) n) f h e = ap (λ (m : Reading (List Action)). onward m (joining a)) (e a n refl)
   same-item xs p bad f h e = refl
 
   -- any count of records above the length is enough
@@ -198,7 +198,7 @@ module _ (v : Version) where
         → layoutOf (onward (placed g xs p) (λ i. afterItem i (actionsWithin (length xs) v))) ≡ ahead xs p (itemStep g)
     unfolding onward placed afterItem actionsFrom
     action-step (got end n) h = refl
-    action-step (got (act a) n) h =
+    action-step (got (item a) n) h =
         let s = action-sized xs _ _ h in
         let f : length (drop n xs) < length xs = omega (arith, length-drop n xs, s .0, s .1) in
         layout-joining a (actionsWithin (length xs) v (drop n xs) (p + n))
@@ -255,13 +255,13 @@ module _ (v : Version) where
   due-step phase.Action xs p = action-step xs p (recordOf (actionForm v) xs) refl
 
   -- ---- a step's size
-  module _ (counts : 1 ≤ v .counts) (xs : List ℕ) {n : ℕ} where
+  module _ (counts : 1 ≤ v .countBits) (xs : List ℕ) {n : ℕ} where
     pub step-size : (q : Phase) {r : Phase} → stepOf v q xs ≡ On r n → (1 ≤ n) × (n ≤ length xs)
     unfolding headerForm ruleCountForm ruleForm envelopeCountForm envelopeForm takeAction
     step-size phase.Header e = from-size xs (headerForm v) _ (recordOf (headerForm v) xs) (sized xs 4 _ (lit≤ tt)) refl e
     step-size (phase.RuleCount m) e = from-size xs ruleCountForm (rulesOf m) (recordOf ruleCountForm xs) (sized xs 5 _ (lit≤ tt)) refl e
     step-size (phase.Rule m c) e = from-size xs ruleForm (λ _. rulesOf m c) (recordOf ruleForm xs) (sized xs 2 _ (lit≤ tt)) refl e
-    step-size phase.EnvelopeCount e = from-size xs (envelopeCountForm v) envelopesOf (recordOf (envelopeCountForm v) xs) (sized xs (v .counts) _ counts) refl e
+    step-size phase.EnvelopeCount e = from-size xs (envelopeCountForm v) envelopesOf (recordOf (envelopeCountForm v) xs) (sized xs (v .countBits) _ counts) refl e
     step-size (phase.Envelope k) e = from-size xs (envelopeForm v) (λ _. envelopesOf k) (recordOf (envelopeForm v) xs) (sized xs 8 _ (lit≤ tt)) refl e
     step-size phase.Action e = item-size xs (actionForm v) (recordOf (actionForm v) xs) (action-sized xs) refl e
 

@@ -3,7 +3,7 @@
 use Prim.Native.Nat.{ℕ, zero, suc}
 use mathlib.Core.List.{List}
 use Rattle.layout.specs.Form.{Got, got, bad, recordOf}
-use Rattle.rules.specs.Script.{Version, headerForm, ruleCountForm, ruleForm, envelopeCountForm, envelopeForm, Item, end, act, takeAction}
+use Rattle.rules.specs.Script.{Version, headerForm, ruleCountForm, ruleForm, envelopeCountForm, envelopeForm, Item, end, item, takeAction}
 use Rattle.script.specs.declared.Phase.{Phase}
 use Rattle.script.specs.declared.Phase.the-variants.{Header, RuleCount, Rule, EnvelopeCount, Envelope, Action}
 use Rattle.script.specs.declared.Next.{Next}
@@ -28,7 +28,7 @@ stepFrom k bad = Bad
 
 abbrev pub itemStep : Got Item → Next
 itemStep (got end n) = End n
-itemStep (got (act a) n) = On Action n
+itemStep (got (item a) n) = On Action n
 itemStep bad = Bad
 
 abbrev pub stepOf : Version → Phase → List ℕ → Next

@@ -1,8 +1,8 @@
 // The layout of a whole script, record after record: it can be read, or its first bad record is at a place.
+use records::ActionRead;
 use records::CountRead;
 use records::EnvelopeRead;
 use records::HeaderRead;
-use records::Taken;
 ghost use mathlib.Core.Path.{_≡_};
 ghost use lib.ListN.{drop};
 ghost use Rattle.rules.specs.Script.{version1, readScript};
@@ -117,9 +117,9 @@ fn after_action(s: &[u8]) -> Next
 {
     let t = records::take_action(s);
     match t {
-        Taken::Act(_, n) => Next::On(Phase::Action, n),
-        Taken::End(n) => Next::End(n),
-        Taken::Bad => Next::Bad,
+        ActionRead::Act(_, n) => Next::On(Phase::Action, n),
+        ActionRead::End(n) => Next::End(n),
+        ActionRead::Bad => Next::Bad,
     }
 }
 

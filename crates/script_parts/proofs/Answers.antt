@@ -13,8 +13,8 @@ use Rattle.layout.specs.Read.{Reading, placed, one}
 use Rattle.layout.proofs.Laws.{record-fits}
 use Rattle.types.specs.declared.Envelope.{Envelope}
 use Rattle.types.specs.declared.Rule.{Rule}
-use Rattle.rules.specs.Script.{Header, ruleForm, Item, end, act}
-use Rattle.records.specs.Views.{headerRead, countRead, ruleRead, envelopeRead, takenOf, sizeTaken}
+use Rattle.rules.specs.Script.{Header, ruleForm, Item, end, item}
+use Rattle.records.specs.Views.{headerRead, countRead, ruleRead, envelopeRead, actionRead, actionSize}
 use Rattle.records.proofs.Laws.{rule-sized}
 use Rattle.records.specs.declared.HeaderRead.{HeaderRead}
 use Rattle.records.specs.declared.HeaderRead.the-variants as header
@@ -23,8 +23,8 @@ use Rattle.records.specs.declared.CountRead.the-variants as count
 use Rattle.records.specs.declared.RuleRead.{RuleRead}
 use Rattle.records.specs.declared.EnvelopeRead.{EnvelopeRead}
 use Rattle.records.specs.declared.EnvelopeRead.the-variants as envelope
-use Rattle.records.specs.declared.Taken.{Taken}
-use Rattle.records.specs.declared.Taken.the-variants as taken
+use Rattle.records.specs.declared.ActionRead.{ActionRead}
+use Rattle.records.specs.declared.ActionRead.the-variants as action
 use Rattle.script_parts.specs.declared.HeaderAt.{HeaderAt}
 use Rattle.script_parts.specs.declared.HeaderAt.the-variants as headerAt
 use Rattle.script_parts.specs.declared.CountAt.{CountAt}
@@ -128,24 +128,24 @@ pub envelope-answers : Answering envelopeRead envelopeSize envelopeHere views.en
 envelope-answers = record { sizes = envelope-sizes; heres = envelope-heres }
 
 -- ---- actions
-abbrev pub takenHere : ℕ → Taken → ActionAt
-takenHere at (taken.Act a n) = actionAt.Act a (at + n)
-takenHere at (taken.End n) = actionAt.End (at + n)
-takenHere at taken.Bad = actionAt.Bad at
+abbrev pub actionHere : ℕ → ActionRead → ActionAt
+actionHere at (action.Act a n) = actionAt.Act a (at + n)
+actionHere at (action.End n) = actionAt.End (at + n)
+actionHere at action.Bad = actionAt.Bad at
 
-taken-sizes : (g : Got Item) → sizeTaken (takenOf g) ≡ gotSize g
-taken-sizes (got end n) = refl
-taken-sizes (got (act a) n) = refl
-taken-sizes bad = refl
+action-sizes : (g : Got Item) → actionSize (actionRead g) ≡ gotSize g
+action-sizes (got end n) = refl
+action-sizes (got (item a) n) = refl
+action-sizes bad = refl
 
-taken-heres : (xs : List ℕ) (at : ℕ) (g : Got Item) → takenHere at (takenOf g) ≡ views.actionAt (placed g xs at)
+action-heres : (xs : List ℕ) (at : ℕ) (g : Got Item) → actionHere at (actionRead g) ≡ views.actionAt (placed g xs at)
 unfolding placed
-taken-heres xs at (got end n) = refl
-taken-heres xs at (got (act a) n) = refl
-taken-heres xs at bad = refl
+action-heres xs at (got end n) = refl
+action-heres xs at (got (item a) n) = refl
+action-heres xs at bad = refl
 
-pub taken-answers : Answering takenOf sizeTaken takenHere views.actionAt
-taken-answers = record { sizes = taken-sizes; heres = taken-heres }
+pub action-answers : Answering actionRead actionSize actionHere views.actionAt
+action-answers = record { sizes = action-sizes; heres = action-heres }
 
 -- ---- rules: one without bytes is bad
 rule-sizes : (g : Got Rule) → ruleRead g .size ≡ gotSize g

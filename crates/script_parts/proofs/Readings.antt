@@ -10,7 +10,7 @@ use lib.ListN.{drop}
 use lib.Seq.{drop-drop}
 use borrow.Author.Tests.{leb-true}
 use Rattle.layout.specs.Bits.{fieldAt}
-use Rattle.layout.specs.Form.{Form, done, refuse, field, Got, got, bad, follow, only, recordOf}
+use Rattle.layout.specs.Form.{Form, filled, refuse, field, Got, got, bad, follow, only, recordOf}
 use Rattle.layout.specs.Read.{Reading, read, badAt, Reader, placed, one, onward, joining, repeat}
 use Rattle.layout.proofs.Laws.{found}
 use Rattle.types.specs.declared.Envelope.{Envelope}
@@ -214,7 +214,7 @@ module _ {A : Type 0} where
 -- ---- what holds of every value that a form may give holds of the one that is read
 module _ {A : Type 0} (P : A → Type 0) where
   abbrev pub Gives : Form A → Type 0
-  Gives (done a) = P a
+  Gives (filled a) = P a
   Gives refuse = Unit
   Gives (field w k) = (v : ℕ) → Gives (k v)
 
@@ -223,7 +223,7 @@ module _ {A : Type 0} (P : A → Type 0) where
   only-gives false f g = tt
 
   follow-gives : (xs : List ℕ) (f : Form A) (at : ℕ) {a : A} {n : ℕ} → Gives f → follow xs f at ≡ got a n → P a
-  follow-gives xs (done b) at {a} {n} g e =
+  follow-gives xs (filled b) at {a} {n} g e =
       let x : b ≡ a = cc in subst P x g
   follow-gives xs refuse at {a} {n} g e =
       let z : _≡_ {A = ℕ} 0 1 = cc in absurd (omega arith)
@@ -243,9 +243,9 @@ module _ {A : Type 0} (P : A → Type 0) where
 -- a table has at most 16 rules
 pub few-rules : (xs : List ℕ) (p : ℕ) {c : ℕ} {ys : List ℕ} {q : ℕ} → one ruleCountForm xs p ≡ read c ys q → c ≤ 16
 unfolding ruleCountForm
-few-rules xs p e = one-gives (λ n. n ≤ 16) ruleCountForm xs p (λ n. only-gives (λ m. m ≤ 16) (leb n 16) (done n) (leb-true n 16)) e
+few-rules xs p e = one-gives (λ n. n ≤ 16) ruleCountForm xs p (λ n. only-gives (λ m. m ≤ 16) (leb n 16) (filled n) (leb-true n 16)) e
 
 -- a script has at most 128 starting envelopes
 pub few-envelopes : (xs : List ℕ) (p : ℕ) {c : ℕ} {ys : List ℕ} {q : ℕ} → one (envelopeCountForm version1) xs p ≡ read c ys q → c ≤ 128
 unfolding envelopeCountForm
-few-envelopes xs p e = one-gives (λ n. n ≤ 128) (envelopeCountForm version1) xs p (λ n. only-gives (λ m. m ≤ 128) (leb n 128) (done n) (leb-true n 128)) e
+few-envelopes xs p e = one-gives (λ n. n ≤ 128) (envelopeCountForm version1) xs p (λ n. only-gives (λ m. m ≤ 128) (leb n 128) (filled n) (leb-true n 128)) e

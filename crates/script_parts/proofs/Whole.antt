@@ -11,7 +11,7 @@ use Rattle.lists.specs.Lists.{choose}
 use Rattle.layout.specs.Form.{Form, Got, got, bad, recordOf}
 use Rattle.layout.specs.Read.{Reading, read, badAt, Reader, placed, one, onward, joining, repeat}
 use Rattle.types.specs.declared.Action.{Action}
-use Rattle.rules.specs.Script.{Version, Header, headerForm, ruleCountForm, ruleForm, envelopeCountForm, envelopeForm, Item, end, act, actionForm, Script, tableFrom, envelopesFrom, closed, afterItem, actionsWithin, actionsFrom, scriptFrom, readScript}
+use Rattle.rules.specs.Script.{Version, Header, headerForm, ruleCountForm, ruleForm, envelopeCountForm, envelopeForm, Item, end, item, actionForm, Script, tableFrom, envelopesFrom, closed, afterItem, actionsWithin, actionsFrom, scriptFrom, readScript}
 use Rattle.records.proofs.Laws.{Sized}
 use Rattle.script.specs.declared.Layout.the-variants as layout
 use Rattle.script.specs.Views.{layoutOf}
@@ -166,7 +166,7 @@ module _ (v : Version) (s : List ℕ) where
 pub data Coming (v : Version) (s : List ℕ) (at : ℕ) (ys : List ℕ) (q : ℕ) : List Action → Type 0 where
   last : (r : ℕ) → one (actionForm v) (drop at s) at ≡ read end (drop r s) r → Coming v s at ys q []
   next
-      : {a : Action} (r : ℕ) {l : List Action} → one (actionForm v) (drop at s) at ≡ read (act a) (drop r s) r → actionsFrom v (drop r s) r ≡ read l ys q
+      : {a : Action} (r : ℕ) {l : List Action} → one (actionForm v) (drop at s) at ≡ read (item a) (drop r s) r → actionsFrom v (drop r s) r ≡ read l ys q
       → Coming v s at ys q (a ∷ l)
 
 past-placed
@@ -197,7 +197,7 @@ module _ (v : Version) (s : List ℕ) (at : ℕ) {ys : List ℕ} {q : ℕ} where
       → afterItem i (actionsWithin (length (drop at s)) v) (drop r s) r ≡ read l ys q → Coming v s at ys q l
   unfolding afterItem joining actionsFrom
   coming-by end r {l} h e = subst (λ (m : List Action). Coming v s at ys q m) (closed-all (drop r s) r e) (last r h)
-  coming-by (act a) r {l} h e =
+  coming-by (item a) r {l} h e =
       let t = both (actionsWithin (length (drop at s)) v (drop r s) r) (joining a) e in
       let u : read (a ∷ t .value) (t .left) (t .place) ≡ read l ys q = t .second in
       let x : a ∷ t .value ≡ l = cc in

@@ -8,7 +8,7 @@ use Rattle.lists.specs.Lists.{pad}
 use Rattle.types.specs.declared.Envelope.{Envelope}
 use Rattle.types.specs.declared.Rule.{Rule}
 use Rattle.layout.specs.Read.{Reading, read, badAt}
-use Rattle.rules.specs.Script.{Item, end, act}
+use Rattle.rules.specs.Script.{Item, end, item}
 use Rattle.rules.specs.Script as script
 use Rattle.records.specs.Views.{zeroRule}
 use Rattle.script_parts.specs.declared.HeaderAt.{HeaderAt}
@@ -44,5 +44,5 @@ envelopeAt (badAt p) = envelope.Bad p
 
 abbrev pub actionAt : Reading Item → ActionAt
 actionAt (read end xs p) = action.End p
-actionAt (read (act a) xs p) = action.Act a p
+actionAt (read (item a) xs p) = action.Act a p
 actionAt (badAt p) = action.Bad p

@@ -18,15 +18,15 @@ ghost use lib.Dec.{leb};
 ghost use Rattle.lists.specs.Lists.{choose};
 ghost use Rattle.rules.specs.Outcome.{base};
 ghost use Rattle.rules.specs.Script.{version1, readScript};
-ghost use Rattle.rules.specs.Program.{output};
+ghost use Rattle.rules.specs.Program.{replay};
 ghost use Rattle.script.specs.declared.Layout.the-variants.{Good};
 ghost use Rattle.script.specs.Views.{layoutOf};
 ghost use Rattle.states.specs.Views.{isGood, Goes};
 
 #[no_mangle]
 pub extern "C" fn states_replay(script: &[u8], out: &mut [u8]) -> usize
-    ensures size { λ r. ⌜ r ≡ length (output base version1 (now (script .entry))) ⌝ }
-    ensures bytes { λ r. ⌜ now (out .exit) ≡ choose (leb r (length (now (out .entry)))) (output base version1 (now (script .entry)) ++ drop r (now (out .entry))) (now (out .entry)) ⌝ }
+    ensures size { λ r. ⌜ r ≡ length (replay base version1 (now (script .entry))) ⌝ }
+    ensures bytes { λ r. ⌜ now (out .exit) ≡ choose (leb r (length (now (out .entry)))) (replay base version1 (now (script .entry)) ++ drop r (now (out .entry))) (now (out .entry)) ⌝ }
 {
     playback::replay(script, out)
 }

@@ -2,13 +2,13 @@ use mathlib.Core.Path.{_≡_, refl}
 use lib.ListN.{length}
 use Rattle.lists.proofs.Places.{length-mapped}
 use borrow.Author.Needs.{needs}
-use Rattle.rules.specs.Link.{saving}
+use Rattle.rules.specs.Link.{withInner}
 use Rattle.durable.proofs.Containers.{durable-is, same-parts, taken-same, pendings-same}
 use Rattle.durable.proofs.save_value.Statement.{statement}
 use Rattle.durable.proofs.save_value.Tie as tie
 
 returns : tie.Need-returns
-unfolding saving
+unfolding withInner
 returns c =
     let a = c .before .before .before in
     let n : length (a .args .d .pending .records) ≡ 32 = search (needs, length-mapped) in

@@ -2,7 +2,7 @@ use mathlib.Core.Path.{_≡_, refl}
 use lib.ListN.{length}
 use Rattle.lists.proofs.Places.{length-mapped}
 use borrow.Author.Needs.{needs}
-use Rattle.rules.specs.Link.{taking}
+use Rattle.rules.specs.Link.{withTaken}
 use Rattle.durable.proofs.Containers.{durable-parts, durable-is, same-parts, pendings-same}
 use Rattle.durable.proofs.take_number.Statement.{statement}
 use Rattle.durable.proofs.take_number.Tie as tie
@@ -11,7 +11,7 @@ note-taken-requires : tie.Need-note-taken-requires
 note-taken-requires c κs = (durable-parts (c .before .args .d) (c .before .pre .0) .1, c .before .pre .1)
 
 returns : tie.Need-returns
-unfolding taking
+unfolding withTaken
 returns c =
     let a = c .before .before .before .before in
     let n : length (a .args .d .pending .records) ≡ 32 = search (needs, length-mapped) in

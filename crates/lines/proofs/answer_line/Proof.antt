@@ -7,7 +7,7 @@ use mathlib.Core.List.{[], _∷_}
 use lib.ListN.{length}
 use mir.Syntax.{w64}
 use mir.Val as val
-use Rattle.rules.specs.Program.{decimal, numbers, line, answerLine}
+use Rattle.rules.specs.Program.{decimal, spaced, line, answerLine}
 use Rattle.text.proofs.Laws.{length-decimal}
 use Rattle.lines.proofs.Laws.{room-first, room-then, piece-then, length-line, room-line, line-told}
 use Rattle.lines.proofs.answer_line.Statement.{statement}
@@ -21,7 +21,7 @@ put-decimal-requires : tie.Need-put-decimal-requires
 unfolding answerLine line
 put-decimal-requires c κs =
     let s = c .before .before in
-    room-first (decimal _) (numbers (s .args .len ∷ [])) (room-line (s .pre) (length-answer _ _ (s .fits .answer) (s .fits .len)))
+    room-first (decimal _) (spaced (s .args .len ∷ [])) (room-line (s .pre) (length-answer _ _ (s .fits .answer) (s .fits .len)))
 
 put-last-requires : tie.Need-put-last-requires
 unfolding answerLine line

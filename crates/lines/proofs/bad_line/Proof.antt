@@ -7,7 +7,7 @@ use mathlib.Core.List.{[], _∷_}
 use lib.ListN.{length}
 use mir.Syntax.{w64}
 use mir.Val as val
-use Rattle.rules.specs.Program.{numbers, line, badWord}
+use Rattle.rules.specs.Program.{spaced, line, badWord}
 use Rattle.lines.proofs.Laws.{room-first, room-then, piece-then, length-line, room-line, line-told}
 use Rattle.lines.proofs.bad_line.Statement.{statement}
 use Rattle.lines.proofs.bad_line.Tie as tie
@@ -22,7 +22,7 @@ put-word-requires : tie.Need-put-word-requires
 unfolding line
 put-word-requires c κs =
     let s = c .before .before .before in
-    room-first badWord (numbers (s .args .place ∷ [])) (room-line (s .pre) (length-bad _ (s .fits .place)))
+    room-first badWord (spaced (s .args .place ∷ [])) (room-line (s .pre) (length-bad _ (s .fits .place)))
 
 put-last-requires : tie.Need-put-last-requires
 unfolding line

@@ -7,7 +7,7 @@ use mathlib.Core.List.{[], _∷_}
 use lib.ListN.{length}
 use mir.Syntax.{w64}
 use mir.Val as val
-use Rattle.rules.specs.Program.{decimal, numbers, line, doneWord}
+use Rattle.rules.specs.Program.{decimal, spaced, line, doneWord}
 use Rattle.lines.proofs.Laws.{fits-then, room-first, room-then, piece-then, length-line, room-line, line-told}
 use Rattle.lines.proofs.done_line.Statement.{statement}
 use Rattle.lines.proofs.done_line.Tie as tie
@@ -22,17 +22,17 @@ put-word-requires : tie.Need-put-word-requires
 unfolding line
 put-word-requires c κs =
     let s = c .before .before .before in
-    room-first doneWord (numbers (s .args .next ∷ s .args .ignored ∷ s .args .refused ∷ [])) (room-line (s .pre) (length-done _ _ _ (s .fits .next) (s .fits .ignored) (s .fits .refused)))
+    room-first doneWord (spaced (s .args .next ∷ s .args .ignored ∷ s .args .refused ∷ [])) (room-line (s .pre) (length-done _ _ _ (s .fits .next) (s .fits .ignored) (s .fits .refused)))
 
 put-number-requires : tie.Need-put-number-requires
-unfolding line numbers
+unfolding line spaced
 put-number-requires c κs =
     let s = c .before .before .before .before .before .before .before in
     let room = room-line (s .pre) (length-done _ _ _ (s .fits .next) (s .fits .ignored) (s .fits .refused)) in
     room-first (32 ∷ decimal _) _ (room-then doneWord _ room (c .before .before .before .put-word .ensures))
 
 put-last-two-requires : tie.Need-put-last-two-requires
-unfolding line numbers
+unfolding line spaced
 put-last-two-requires c κs =
     let s = c .before .before .before .before .before .before .before .before .before .before .before in
     let room = room-line (s .pre) (length-done _ _ _ (s .fits .next) (s .fits .ignored) (s .fits .refused)) in
@@ -42,11 +42,11 @@ same-length : tie.Need-same-length
 same-length c = search needs
 
 returns : tie.Need-returns
-unfolding line numbers
+unfolding line spaced
 returns c =
     let s = c .before .before .before .before .before .before .before .before .before .before .before .before .before .before in
     let word = c .before .before .before .before .before .before .before .before .before .before .put-word .ensures in
-    let fits = fits-then doneWord (numbers (s .args .next ∷ s .args .ignored ∷ s .args .refused ∷ [])) (s .pre .0) word in
+    let fits = fits-then doneWord (spaced (s .args .next ∷ s .args .ignored ∷ s .args .refused ∷ [])) (s .pre .0) word in
     let last = piece-then (32 ∷ decimal _) _ fits (c .before .before .before .before .before .before .put-number .ensures) (c .before .before .put-last-two .ensures) in
     line-told (piece-then doneWord _ (s .pre .0) word last) (length-done _ _ _ (s .fits .next) (s .fits .ignored) (s .fits .refused))
 

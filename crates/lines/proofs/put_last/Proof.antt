@@ -2,24 +2,24 @@
 -- Assumes nothing.
 use borrow.Author.Needs.{needs}
 use mathlib.Core.List.{[], _∷_}
-use Rattle.rules.specs.Program.{numbers}
+use Rattle.rules.specs.Program.{spaced}
 use Rattle.lines.proofs.Laws.{room-first, room-then, piece-then}
 use Rattle.lines.proofs.put_last.Statement.{statement}
 use Rattle.lines.proofs.put_last.Tie as tie
 
 put-number-requires : tie.Need-put-number-requires
-unfolding numbers
+unfolding spaced
 put-number-requires c κs = room-first _ (10 ∷ []) (c .before .before .pre)
 
 put-byte-requires : tie.Need-put-byte-requires
-unfolding numbers
+unfolding spaced
 put-byte-requires c κs = room-then _ (10 ∷ []) (c .before .before .before .before .before .before .pre) (c .before .before .before .put-number .ensures)
 
 same-length : tie.Need-same-length
 same-length c = search needs
 
 returns : tie.Need-returns
-unfolding numbers
+unfolding spaced
 returns c = piece-then _ (10 ∷ []) (c .before .before .before .before .before .before .before .before .before .pre .fits) (c .before .before .before .before .before .before .put-number .ensures) (c .before .before .put-byte .ensures)
 
 pub put-last-spec : {M : Type 1} → statement M

@@ -7,7 +7,7 @@ use mathlib.Core.List.{[], _∷_}
 use lib.ListN.{length}
 use mir.Syntax.{w64}
 use mir.Val as val
-use Rattle.rules.specs.Program.{numbers, line, startWord}
+use Rattle.rules.specs.Program.{spaced, line, startWord}
 use Rattle.lines.proofs.Laws.{room-first, room-then, piece-then, length-line, room-line, line-told}
 use Rattle.lines.proofs.start_line.Statement.{statement}
 use Rattle.lines.proofs.start_line.Tie as tie
@@ -22,7 +22,7 @@ put-word-requires : tie.Need-put-word-requires
 unfolding line
 put-word-requires c κs =
     let s = c .before .before .before in
-    room-first startWord (numbers (s .args .answer ∷ s .args .len ∷ [])) (room-line (s .pre) (length-start _ _ (s .fits .answer) (s .fits .len)))
+    room-first startWord (spaced (s .args .answer ∷ s .args .len ∷ [])) (room-line (s .pre) (length-start _ _ (s .fits .answer) (s .fits .len)))
 
 put-last-two-requires : tie.Need-put-last-two-requires
 unfolding line

@@ -1,8 +1,8 @@
 use native.Mathlib.Omega.{arith}
 use mathlib.Core.Path.{sym, ap, _∙_}
 use Rattle.rules.specs.Script.{version1, actionForm, takeAction}
-use Rattle.records.specs.Views.{sizeTaken}
-use Rattle.script_parts.proofs.Answers.{fits, tells, takenHere, taken-answers}
+use Rattle.records.specs.Views.{actionSize}
+use Rattle.script_parts.proofs.Answers.{fits, tells, actionHere, action-answers}
 use borrow.Author.Needs.{needs}
 use Rattle.script_parts.proofs.action_at.Statement.{statement}
 use Rattle.script_parts.proofs.action_at.Tie as tie
@@ -21,7 +21,7 @@ unfolding takeAction
 add-t9 c =
     let r = c .before .before .before in
     let a = r .before .before .before .args in
-    omega (arith, fits taken-answers (actionForm version1) (a .s .now) (a .at) (r .before .from .ensures) (r .take-action .ensures), ap sizeTaken (c .before .t .given .1))
+    omega (arith, fits action-answers (actionForm version1) (a .s .now) (a .at) (r .before .from .ensures) (r .take-action .ensures), ap actionSize (c .before .t .given .1))
 
 enum-known-t-2 : tie.Need-enum-known-t-2
 enum-known-t-2 c = search needs
@@ -31,7 +31,7 @@ unfolding takeAction
 add-t10 c =
     let r = c .before .before .before in
     let a = r .before .before .before .args in
-    omega (arith, fits taken-answers (actionForm version1) (a .s .now) (a .at) (r .before .from .ensures) (r .take-action .ensures), ap sizeTaken (c .before .t2 .given .1))
+    omega (arith, fits action-answers (actionForm version1) (a .s .now) (a .at) (r .before .from .ensures) (r .take-action .ensures), ap actionSize (c .before .t2 .given .1))
 
 enum-told : tie.Need-enum-told
 enum-told c = search needs
@@ -41,21 +41,21 @@ unfolding takeAction
 returns c =
     let r = c .before .before .before in
     let a = r .before .before .before .args in
-    ap (takenHere (a .at)) (sym (c .before .t .given .1)) ∙ tells taken-answers (actionForm version1) (a .s .now) (a .at) (r .before .from .ensures) (r .take-action .ensures)
+    ap (actionHere (a .at)) (sym (c .before .t .given .1)) ∙ tells action-answers (actionForm version1) (a .s .now) (a .at) (r .before .from .ensures) (r .take-action .ensures)
 
 returns-2 : tie.Need-returns-2
 unfolding takeAction
 returns-2 c =
     let r = c .before .before .before in
     let a = r .before .before .before .args in
-    ap (takenHere (a .at)) (sym (c .before .t2 .given .1)) ∙ tells taken-answers (actionForm version1) (a .s .now) (a .at) (r .before .from .ensures) (r .take-action .ensures)
+    ap (actionHere (a .at)) (sym (c .before .t2 .given .1)) ∙ tells action-answers (actionForm version1) (a .s .now) (a .at) (r .before .from .ensures) (r .take-action .ensures)
 
 returns-3 : tie.Need-returns-3
 unfolding takeAction
 returns-3 c =
     let r = c .before .before in
     let a = r .before .before .before .args in
-    ap (takenHere (a .at)) (sym (c .enum-told .given .1)) ∙ tells taken-answers (actionForm version1) (a .s .now) (a .at) (r .before .from .ensures) (r .take-action .ensures)
+    ap (actionHere (a .at)) (sym (c .enum-told .given .1)) ∙ tells action-answers (actionForm version1) (a .s .now) (a .at) (r .before .from .ensures) (r .take-action .ensures)
 
 pub action-at-spec : {M : Type 1} → statement M
 action-at-spec =
