@@ -10,7 +10,7 @@ use lib.ListN.{drop}
 use lib.Seq.{drop-drop}
 use borrow.Author.Tests.{leb-true}
 use Rattle.layout.specs.Bits.{fieldAt}
-use Rattle.layout.specs.Form.{Form, filled, refuse, field, Got, got, bad, follow, only, recordOf}
+use Rattle.layout.specs.Form.{Form, filled, refuse, field, reached, Got, got, bad, follow, only, recordOf}
 use Rattle.layout.specs.Read.{Reading, read, badAt, Reader, placed, one, onward, joining, repeat}
 use Rattle.layout.proofs.Laws.{found}
 use Rattle.types.specs.declared.Envelope.{Envelope}
@@ -222,7 +222,7 @@ module _ {A : Type 0} (P : A → Type 0) where
   only-gives true f g = g refl
   only-gives false f g = tt
 
-  follow-gives : (xs : List ℕ) (f : Form A) (at : ℕ) {a : A} {n : ℕ} → Gives f → follow xs f at ≡ got a n → P a
+  follow-gives : (xs : List ℕ) (f : Form A) (at : ℕ) {a : A} {n : ℕ} → Gives f → follow xs f at ≡ reached a n → P a
   follow-gives xs (filled b) at {a} {n} g e =
       let x : b ≡ a = cc in subst P x g
   follow-gives xs refuse at {a} {n} g e =
