@@ -1,3 +1,4 @@
 pub mod Handlers
 pub mod Saves
+pub mod One
 pub mod Kept

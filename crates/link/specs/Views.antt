@@ -1,10 +1,16 @@
 -- What a handler's answer holds: its link, its commands, and the struct of an outcome.
 -- Assumes nothing.
+use Prim.Native.Nat.{ℕ}
+use mathlib.Core.Path.{_≡_}
 use mathlib.Core.Bool.{false}
 use mathlib.Core.List.{List, [], map}
+use Rattle.types.specs.declared.Id.{Id}
+use Rattle.types.specs.declared.Message.{Message}
 use Rattle.types.specs.Answers.{answerOf}
-use Rattle.rules.specs.Outcome.{Outcome, done, refused}
+use Rattle.rules.specs.Outcome.{Outcome, done, refused, base}
 use Rattle.rules.specs.Link as rules
+use Rattle.inner.specs.declared.Table.{Table}
+use Rattle.inner.specs.Views.{rulesOf}
 use Rattle.durable.specs.declared.Stored.{Stored}
 use Rattle.durable.specs.Views.{durableView, durableAs, storedView}
 use Rattle.output.specs.Views.{commandsIn, commandsOf, commandAs, commandView}
@@ -31,3 +37,13 @@ didAs l (refused n) = record { answer = answerOf n; link = l; touched = false; c
 -- The link that a start sets out with.
 abbrev pub startLink : Stored → Link
 startLink s = linkAs (record { durable = rules.durableOf (storedView s); state = 0 })
+
+-- ---- what the handlers promise, for every number that the actor may have: only the events name it, and the code has none
+abbrev pub Starts : Table → Stored → Did → Type 0
+Starts t s x = (i : Id) → x ≡ didAs (startLink s) (rules.onStart (base .limits) i (rulesOf t) (storedView s))
+
+abbrev pub Hears : Table → Link → Id → Message → Did → Type 0
+Hears t l s m x = (i : Id) → x ≡ didAs l (rules.onMsg (base .limits) i (rulesOf t) (linkView l) s m)
+
+abbrev pub TimesOut : Table → Link → ℕ → Did → Type 0
+TimesOut t l timer x = (i : Id) → x ≡ didAs l (rules.onTimeout (base .limits) i (rulesOf t) (linkView l) timer)

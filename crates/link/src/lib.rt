@@ -34,7 +34,7 @@ ghost use Rattle.rules.specs.Link as rules;
 ghost use Rattle.inner.specs.Views.{rulesOf, replyOf, tableOk};
 ghost use Rattle.durable.specs.Views.{durableView, storedView, durableLaid, storedLaid};
 ghost use Rattle.output.specs.Views.{commandsOf, Whole};
-ghost use Rattle.link.specs.Views.{linkView, didAs, startLink};
+ghost use Rattle.link.specs.Views.{linkView, didAs, Starts, Hears, TimesOut};
 
 // The volatile part is the inner actor's state.
 pub struct Link {
@@ -121,7 +121,7 @@ fn start_with(d: Durable, r: Reaction) -> Did
 // Start, on what is stored. A refusal hands back the link that it set out with.
 pub fn on_start(table: Table, stored: Stored) -> Did
     requires { ⌜ (tableOk table ≡ true) × (storedLaid stored ≡ true) ⌝ }
-    ensures { λ x. ⌜ ((i : Id) → x ≡ didAs (startLink stored) (rules.onStart (base .limits) i (rulesOf table) (storedView stored))) ⌝ }
+    ensures { λ x. ⌜ Starts table stored x ⌝ }
 {
     let d = stored_or_fresh(stored);
     let saved = d.inner;
@@ -222,7 +222,7 @@ fn acknowledge(l: Link, n: Number) -> Did
 // A message from a source that is an actor.
 pub fn on_msg(table: Table, link: Link, source: Id, message: Message) -> Did
     requires { ⌜ (tableOk table ≡ true) × (durableLaid (link .durable) ≡ true) × (source .0 < 8) ⌝ }
-    ensures { λ x. ⌜ ((i : Id) → x ≡ didAs link (rules.onMsg (base .limits) i (rulesOf table) (linkView link) source message)) ⌝ }
+    ensures { λ x. ⌜ Hears table link source message x ⌝ }
 {
     match message {
         Message::Deliver(n, p) => deliver(table, link, source, n, p),
@@ -271,11 +271,12 @@ fn timed(l: Link, r: Reaction) -> Did
     }
     let e = o.durable;
     let out = o.commands;
+    let kept = l.state;
     Did {
         answer: Answer::Done,
         link: Link {
             durable: e,
-            state: l.state,
+            state: kept,
         },
         touched: true,
         commands: out,
@@ -299,14 +300,14 @@ fn idle(l: Link) -> Did
 // Timer 31 is Network; the others are the inner actor's.
 pub fn on_timeout(table: Table, link: Link, timer: u8) -> Did
     requires { ⌜ (tableOk table ≡ true) × (durableLaid (link .durable) ≡ true) ⌝ }
-    ensures { λ x. ⌜ ((i : Id) → x ≡ didAs link (rules.onTimeout (base .limits) i (rulesOf table) (linkView link) timer)) ⌝ }
+    ensures { λ x. ⌜ TimesOut table link timer x ⌝ }
 {
     if timer == 31 {
         return resend(link);
     }
     let r = react(table, 3, link.state, Id(0), timer as u32);
-    let now = settle(link.state, r);
-    if now.ignored {
+    let after = settle(link.state, r);
+    if after.ignored {
         return idle(link);
     }
     timed(link, r)

@@ -17,7 +17,7 @@ use Rattle.layout.specs.Form.{filled}
 use Rattle.layout.specs.Read.{read, badAt, Reader, one, onward, joining, repeat}
 use Rattle.rules.specs.Outcome.{guard, base}
 use Rattle.rules.specs.Start.{blank, start}
-use Rattle.rules.specs.Script.{Version, version1, Header, headerForm, ruleCountForm, ruleForm, tableFrom, envelopesFrom}
+use Rattle.rules.specs.Script.{Version, version1, Header, headerForm, ruleCountForm, ruleForm, envelopeCountForm, envelopeForm, tableFrom, envelopesFrom}
 use Rattle.parts.specs.Parts.{systems}
 use Rattle.inner.specs.declared.Table.{Table}
 use Rattle.inner.specs.Views.{rulesOf}
@@ -28,7 +28,7 @@ use Rattle.system_parts.specs.Views.{answeredOf}
 use Rattle.system_start.specs.declared.Given.{Given}
 use Rattle.system_start.specs.Views.{startLaid, started}
 use Rattle.script_lists.specs.Views.{zeroEnvelope}
-use Rattle.script_parts.proofs.Readings.{only-gives, one-gives, few-rules}
+use Rattle.script_parts.proofs.Readings.{only-gives, one-gives, few-rules, few-envelopes}
 use Rattle.script_parts.proofs.Whole.{both, Parts}
 use Rattle.opening.specs.Views.{afterHeader, openingFrom, openedOf}
 
@@ -89,6 +89,15 @@ table-read xs p rs ys q e =
     let n = repeat-all (one ruleForm) (λ x. true) (λ xs p a ys q e. refl) (r .value) (r .left) (r .place) (r .second) .0 in
     table-fits rs (le-leb (length rs) 16 (omega arith))
 
+-- at most 128 envelopes are read
+pub few-given : (xs : List ℕ) (p : ℕ) {es : List Envelope} {ys : List ℕ} {q : ℕ} → envelopesFrom version1 xs p ≡ read es ys q → length es ≤ 128
+unfolding envelopesFrom
+few-given xs p e =
+    let r = both (one (envelopeCountForm version1) xs p) (λ c. repeat c (one (envelopeForm version1))) e in
+    let c = few-envelopes xs p (r .first) in
+    let n = repeat-all (one (envelopeForm version1)) (λ x. true) (λ xs p a ys q e. refl) (r .value) (r .left) (r .place) (r .second) .0 in
+    omega arith
+
 -- ---- the start finds what was read in the arrays
 module _
     (kind count : ℕ) (xs : List ℕ) (p : ℕ) {ts : List (List Rule)} {ys : List ℕ} {q : ℕ} (few : count ≤ 8) (reads : repeat count tableFrom xs p ≡ read ts ys q)
@@ -98,19 +107,19 @@ module _
       let n = repeat-all tableFrom (λ rs. tableLaid (tableAs rs)) table-read count xs p reads .0 in
       ap (take count) laid ∙ ap (λ (k : ℕ). take k (pad 8 zeroTable (map tableAs ts))) (sym n ∙ sym (length-map ts tableAs)) ∙ pad-view 8 zeroTable (map tableAs ts)
 
-  tables-laid : startLaid count tables ≡ true
+  lists-laid : (g : Given) → g .used ≤ 128 → startLaid count tables g ≡ true
   unfolding startLaid
-  tables-laid =
+  lists-laid g h =
       let l = repeat-all tableFrom (λ rs. tableLaid (tableAs rs)) table-read count xs p reads .1 in
-      every-make _ _ (le-leb count 8 few) (every-make _ _ (ap (all tableLaid) tables-taken ∙ sym (all-map tableLaid tableAs ts) ∙ l) every-nil)
+      every-make _ _ (le-leb count 8 few) (every-make _ _ (ap (all tableLaid) tables-taken ∙ sym (all-map tableLaid tableAs ts) ∙ l) (every-make _ _ (le-leb (g .used) 128 h) every-nil))
 
   pub started-is
-      : (g : Given) (es : List Envelope) → g .list ≡ pad 128 zeroEnvelope es → g .used ≡ length es → started kind count tables g ≡ systems (start base kind ts es)
+      : (g : Given) (es : List Envelope) → length es ≤ 128 → g .list ≡ pad 128 zeroEnvelope es → g .used ≡ length es → started kind count tables g ≡ systems (start base kind ts es)
   unfolding started guard
-  started-is g es e n =
+  started-is g es h e n =
       let r = ap (map rulesOf) tables-taken ∙ map-back tableAs rulesOf rules-back ts in
       let s = (λ i. take (n i) (e i)) ∙ pad-view 128 zeroEnvelope es in
-      rw tables-laid (λ i. systems (start base kind (r i) (s i)))
+      rw (lists-laid g (omega arith)) (λ i. systems (start base kind (r i) (s i)))
 
 -- ---- a script taken apart, as its parts open
 pub opened-parts

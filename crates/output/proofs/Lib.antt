@@ -1,2 +1,3 @@
 pub mod Outputs
 pub mod Loops
+pub mod One

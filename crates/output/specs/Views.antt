@@ -5,9 +5,12 @@ use mathlib.Core.Bool.{true, false}
 use mathlib.Core.List.{List, [], _++_, map}
 use lib.ListN.{length, take}
 use Rattle.lists.specs.Lists.{pad}
+use Rattle.types.specs.declared.Id.{Id}
 use Rattle.types.specs.Answers.{answerOf}
-use Rattle.rules.specs.Outcome.{Outcome, done, refused}
+use Rattle.rules.specs.Outcome.{Outcome, done, refused, base}
 use Rattle.rules.specs.Link as rules
+use Rattle.inner.specs.declared.Reaction.{Reaction}
+use Rattle.inner.specs.Views.{replyOf}
 use Rattle.durable.specs.declared.Durable.{Durable}
 use Rattle.durable.specs.Views.{durableView, durableAs, durableLaid}
 use Rattle.output.specs.declared.LinkCommand.{LinkCommand}
@@ -48,3 +51,7 @@ commandView d Save = rules.Save d
 abbrev pub outputAs : List LinkCommand → Outcome rules.Output → Output
 outputAs cs (done o) = record { going = true; answer = answerOf 0; durable = durableAs (o .durable); commands = commandsOf (cs ++ map commandAs (o .commands)) }
 outputAs cs (refused n) = record { going = false; answer = answerOf n; durable = durableAs rules.fresh; commands = commandsOf [] }
+
+-- What is promised of a reaction's output behind these commands, for every number that the actor may have: only the events name it.
+abbrev pub Outputs : Durable → Commands → Reaction → Output → Type 0
+Outputs d cs r x = (i : Id) → x ≡ outputAs (commandsIn cs) (rules.output (base .limits) i (durableView d) (replyOf r .out))

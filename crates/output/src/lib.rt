@@ -25,7 +25,7 @@ ghost use Rattle.rules.specs.Outcome.{base};
 ghost use Rattle.rules.specs.Link as rules;
 ghost use Rattle.inner.specs.Views.{replyOf};
 ghost use Rattle.durable.specs.Views.{durableView, durableAs};
-ghost use Rattle.output.specs.Views.{commandsIn, commandsOf, outputAs, Whole};
+ghost use Rattle.output.specs.Views.{commandsIn, commandsOf, outputAs, Outputs, Whole};
 
 // An enum cannot hold an array, so a Save has no content: it saves the durable part of the answered link.
 pub enum LinkCommand {
@@ -202,7 +202,7 @@ fn saves(r: Reaction) -> bool
 // The output of a reaction, saved once after all of it if there was any Send or Save.
 pub fn output_of(d: Durable, cs: Commands, r: Reaction) -> Output
     requires { ⌜ Whole d × (cs ≡ commandsOf (commandsIn cs)) × (cs .used ≤ 1) × (r .used ≤ 4) ⌝ }
-    ensures { λ x. ⌜ ((i : Id) → x ≡ outputAs (commandsIn cs) (rules.output (base .limits) i (durableView d) (replyOf r .out))) ⌝ }
+    ensures { λ x. ⌜ Outputs d cs r x ⌝ }
 {
     let o = process(d, cs, r);
     if !o.going {

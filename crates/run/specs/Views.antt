@@ -12,7 +12,7 @@ use Rattle.rules.specs.System.{Sys}
 use Rattle.rules.specs.Run.{answers, Totals, counted, totals}
 use Rattle.rules.specs.Script.{version1, actionsFrom}
 use Rattle.rules.specs.Program.{actionLines, doneLine}
-use Rattle.lines.specs.Pieces.{Fits}
+use Rattle.lines.specs.Pieces.{Fits, Piece}
 use Rattle.system.specs.declared.System.{System}
 use Rattle.system.specs.Views.{sysView}
 use Rattle.system_parts.specs.Views.{Ready}
@@ -31,6 +31,11 @@ tallyOf t = record { next = t .nextCount; ignored = t .ignoredCount; refused = t
 
 abbrev pub tallied : ℕ → Tally → Tally
 tallied n t = tallyOf (counted n (totalsIn t))
+
+-- What a run promises of the place after its text and of the buffer, for whatever actions are read from the place on.
+abbrev pub Writes : List ℕ → ℕ → System → List ℕ → ℕ → Bool → ℕ → List ℕ → Type 0
+Writes script from s out place write end left =
+    (l : List Action) (ys : List ℕ) (q : ℕ) → actionsFrom version1 (drop from script) from ≡ read l ys q → Piece write place (runText (sysView s) l) out end left
 
 -- Actions can be read from the place on, the system is well formed, and the output fits.
 pub record Runs (script : List ℕ) (from : ℕ) (s : System) (out : List ℕ) (place : ℕ) (write : Bool) : Type 0 where

@@ -9,15 +9,8 @@ use script_parts::ActionAt;
 use script_parts::action_at;
 use system::System;
 ghost use mathlib.Core.Path.{_≡_};
-ghost use mathlib.Core.List.{List};
-ghost use Prim.Native.Nat.{ℕ, _+_, _<_};
-ghost use lib.ListN.{drop};
-ghost use Rattle.types.specs.declared.Action.{Action};
-ghost use Rattle.layout.specs.Read.{read};
-ghost use Rattle.rules.specs.Script.{version1, actionsFrom};
-ghost use Rattle.system.specs.Views.{sysView};
-ghost use Rattle.lines.specs.Pieces.{Piece};
-ghost use Rattle.run.specs.Views.{tallied, runText, Runs};
+ghost use Prim.Native.Nat.{_+_, _<_};
+ghost use Rattle.run.specs.Views.{tallied, Runs, Writes};
 
 // How many answers were 0, 1 and others.
 pub struct Tally {
@@ -62,7 +55,7 @@ pub fn run(
     write: bool,
 ) -> usize
     requires { ⌜ Runs (now script) from s (now out) place write ⌝ }
-    ensures { λ r. ⌜ ((l : List Action) (ys : List ℕ) (q : ℕ) → actionsFrom version1 (drop from (now (script .entry))) from ≡ read l ys q → Piece write place (runText (sysView s) l) (now (out .entry)) r (now (out .exit))) ⌝ }
+    ensures { λ r. ⌜ Writes (now (script .entry)) from s (now (out .entry)) place write r (now (out .exit)) ⌝ }
 {
     let count = s.count;
     let tables = s.tables;

@@ -1,5 +1,6 @@
 -- The part that a network and an actor are, and the answer struct of a part's outcome.
 -- Assumes nothing.
+use mathlib.Core.Path.{_≡_}
 use mathlib.Core.List.{List, []}
 use Rattle.lists.specs.Lists.{choose}
 use Rattle.types.specs.declared.Rule.{Rule}
@@ -7,7 +8,7 @@ use Rattle.types.specs.Answers.{answerOf}
 use Rattle.rules.specs.Outcome.{Outcome, done, refused}
 use Rattle.network.specs.declared.Network.{Network}
 use Rattle.network.specs.Views.{netView, networkOf}
-use Rattle.parts.specs.Parts.{Part}
+use Rattle.parts.specs.Parts.{Part, crashPart}
 use Rattle.actor.specs.declared.Actor.{Actor}
 use Rattle.actor.specs.Views.{actorView, actorAs, isDone}
 use Rattle.rules.specs.Link as rules
@@ -30,3 +31,7 @@ didView d = record { link = linkView (d .link); touched = d .touched; commands =
 -- A refusal hands back what came first.
 abbrev pub backTo : Network → Actor → Touched → Touched
 backTo n a x = choose (isDone (x .answer)) x (record { answer = x .answer; network = n; actor = a })
+
+-- What a crash promises of the actor, whatever its rules and the network: it looks at neither.
+abbrev pub Crashes : Actor → Actor → Type 0
+Crashes a x = (rs : List Rule) (n : Network) → x ≡ actorAs (crashPart (partView rs n a) .actor)

@@ -35,7 +35,7 @@ ghost use Rattle.link.specs.Views.{linkView, linkAs, toldBy};
 ghost use Rattle.output.specs.Views.{commandView, commandsIn};
 ghost use Rattle.parts.specs.Parts.{runPart, finishPart, wakePart, deliverPart, timeoutPart, crashPart, recoverPart};
 ghost use Rattle.actor.specs.Views.{actorAs, ActorLaid};
-ghost use Rattle.steps.specs.Views.{partView, didView, touchedOf, backTo};
+ghost use Rattle.steps.specs.Views.{partView, didView, touchedOf, backTo, Crashes};
 
 // Where the answer is not Done, network and actor are those that came.
 pub struct Touched {
@@ -282,7 +282,7 @@ fn mark(a: Actor, crashed: bool, timers: Timers) -> Actor
 // Timers are cleared and the actor is marked.
 pub fn crash(a: Actor) -> Actor
     requires { ⌜ ActorLaid a ⌝ }
-    ensures { λ r. ⌜ ((rs : List Rule) (n : Network) → r ≡ actorAs (crashPart (partView rs n a) .actor)) ⌝ }
+    ensures { λ r. ⌜ Crashes a r ⌝ }
 {
     let t = a.timers.cancel_all();
     mark(a, true, t)

@@ -67,7 +67,7 @@ started-among : (kind count : ℕ) (tables : List Table) (g : Given) → Among r
 unfolding started answerOf
 started-among kind count tables g =
     let ts = tablesView count tables in
-    subst (Among refusal) (sym (systems-guard (startLaid count tables) 10 (start base kind ts (givenView g))))
+    subst (Among refusal) (sym (systems-guard (startLaid count tables g) 10 (start base kind ts (givenView g))))
     (on-guard refusal refl refl refl _ _ _ refl (among-numbers (start base kind ts (givenView g)) (start-answers base kind ts (givenView g)) (start-done base kind ts (givenView g))))
 
 module _ (kind count : ℕ) (tables : List Table) (g : Given) where
@@ -86,7 +86,7 @@ module _ (kind count : ℕ) (tables : List Table) (g : Given) where
 
   stages : started kind count tables g ≡ guard (startFine kind count tables g) 10 (systems (bind (fill (base .room) (givenView g) first) (wakeAll base 0 (first .actors))))
   unfolding started startFine start
-  stages = ap systems (guard-both (startLaid count tables) (startable kind ts (givenView g)) 10 _) ∙ systems-guard _ _ _
+  stages = ap systems (guard-both (startLaid count tables g) (startable kind ts (givenView g)) 10 _) ∙ systems-guard _ _ _
 
   pub start-refused : startFine kind count tables g ≡ false → started kind count tables g ≡ refused 10
   start-refused e = stages ∙ unguarded _ _ _ e
@@ -163,7 +163,7 @@ module _ (kind count : ℕ) (tables : List Table) (g : Given) where
   unfolding started
   started-formed m e =
       let x = systems-done _ m e in
-      ap (wellFormed base) (sym (x .2)) ∙ holds-guard (startLaid count tables) 10 _ (λ _. start-well base kind ts (givenView g)) .value (x .0) (x .1)
+      ap (wellFormed base) (sym (x .2)) ∙ holds-guard (startLaid count tables g) 10 _ (λ _. start-well base kind ts (givenView g)) .value (x .0) (x .1)
 
   -- The struct that is handed back then holds it, and is ready.
   pub started-ready : (m : Sys) → started kind count tables g ≡ done m → Ready (systemOf m)

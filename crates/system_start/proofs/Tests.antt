@@ -6,7 +6,7 @@ use mathlib.Core.Path.{_≡_, sym, subst, _∙_}
 use mathlib.Core.Bool.{Bool, true, _&&_}
 use mathlib.Core.List.{List, [], _∷_, map}
 use lib.ListN.{length, take, length-map}
-use lib.Seq.{length-take-le, take-all}
+use lib.Seq.{length-take-le}
 use lib.Dec.{leb}
 use borrow.Author.Tests.{leb-true, le-leb}
 use Rattle.lists.specs.Lists.{all, every}
@@ -22,10 +22,6 @@ use Rattle.system.proofs.Laws.{same-true}
 use Rattle.system_start.specs.declared.Given.{Given}
 use Rattle.system_start.specs.Views.{givenView, tablesView, startLaid, startFine}
 
--- A count beyond the list takes all of it.
-pub take-beyond : {A : Type 0} (n k : ℕ) (l : List A) → length l ≡ n → n ≤ k → take n l ≡ take k l
-take-beyond n k l e h = take-all n l (omega arith) ∙ sym (take-all k l (omega arith))
-
 -- ---- tables
 pub tables-sound : (l : List Table) → all tableOk l ≡ true → all sound (map rulesOf l) ≡ true
 tables-sound l e = sym (all-map sound rulesOf l) ∙ all-make _ l (λ t m. table-parts t (all-in _ _ e t m) .1)
@@ -39,30 +35,32 @@ count-seen count tables n h = length-map (take count tables) rulesOf ∙ length-
 module _ (kind count : ℕ) (tables : List Table) (g : Given) where
   -- The tests, as they are asked.
   abbrev pub tests : List Bool
-  tests = leb 1 count ∷ leb count 8 ∷ leb kind 2 ∷ all tableOk (take count tables) ∷ all (sourceKnown count) (givenView g) ∷ []
+  tests = leb 1 count ∷ leb count 8 ∷ leb kind 2 ∷ all tableOk (take count tables) ∷ leb (g .used) 128 ∷ all (sourceKnown count) (givenView g) ∷ []
 
   pub record Fine : Type 0 where
     pub some : 1 ≤ count
     pub few : count ≤ 8
     pub kinds : kind ≤ 2
     pub tables-ok : all tableOk (take count tables) ≡ true
+    pub held : g .used ≤ 128
     pub sources : all (sourceKnown count) (givenView g) ≡ true
 
   of-tests : every tests ≡ true → Fine
   of-tests e =
-      let a = every-cons _ _ e in let b = every-cons _ _ (a .1) in let c = every-cons _ _ (b .1) in let d = every-cons _ _ (c .1) in
-      record { some = leb-true _ _ (a .0); few = leb-true _ _ (b .0); kinds = leb-true _ _ (c .0); tables-ok = d .0; sources = every-cons _ _ (d .1) .0 }
+      let a = every-cons _ _ e in let b = every-cons _ _ (a .1) in let c = every-cons _ _ (b .1) in let d = every-cons _ _ (c .1) in let f = every-cons _ _ (d .1) in
+      record { some = leb-true _ _ (a .0); few = leb-true _ _ (b .0); kinds = leb-true _ _ (c .0); tables-ok = d .0; held = leb-true _ _ (f .0); sources = every-cons _ _ (f .1) .0 }
 
   to-tests : Fine → every tests ≡ true
-  to-tests f = every-make _ _ (le-leb _ _ (f .some)) (every-make _ _ (le-leb _ _ (f .few)) (every-make _ _ (le-leb _ _ (f .kinds)) (every-make _ _ (f .tables-ok) (every-make _ _ (f .sources) every-nil))))
+  to-tests f = every-make _ _ (le-leb _ _ (f .some)) (every-make _ _ (le-leb _ _ (f .few)) (every-make _ _ (le-leb _ _ (f .kinds)) (every-make _ _ (f .tables-ok) (every-make _ _ (le-leb _ _ (f .held)) (every-make _ _ (f .sources) every-nil)))))
 
   module _ (room : length tables ≡ 8) where
     pub fine-of : startFine kind count tables g ≡ true → Fine
     unfolding startFine startLaid startable
     fine-of e =
         let ts = tablesView count tables in
-        let x = and-both (every (leb count 8 ∷ all tableLaid (take count tables) ∷ [])) _ e in
+        let x = and-both (every (leb count 8 ∷ all tableLaid (take count tables) ∷ leb (g .used) 128 ∷ [])) _ e in
         let y = every-cons _ _ (x .0) in
+        let z = every-cons _ _ (y .1) in
         let a = and-both (leb 1 (length ts) && leb (length ts) 8 && leb kind 2 && all sound ts) _ (x .1) in
         let b = and-both (leb 1 (length ts) && leb (length ts) 8 && leb kind 2) _ (a .0) in
         let c = and-both (leb 1 (length ts) && leb (length ts) 8) _ (b .0) in
@@ -74,7 +72,8 @@ module _ (kind count : ℕ) (tables : List Table) (g : Given) where
           some = omega arith;
           few = few;
           kinds = leb-true _ _ (c .1);
-          tables-ok = tables-fine (take count tables) (every-cons _ _ (y .1) .0) (b .1);
+          tables-ok = tables-fine (take count tables) (z .0) (b .1);
+          held = leb-true _ _ (every-cons _ _ (z .1) .0);
           sources = subst (λ (k : ℕ). all (sourceKnown k) (givenView g) ≡ true) n (a .1);
         }
 
@@ -83,7 +82,7 @@ module _ (kind count : ℕ) (tables : List Table) (g : Given) where
     of-fine f =
         let n = sym (count-seen count tables room (f .few)) in
         and-make _ _
-        (every-make _ _ (le-leb _ _ (f .few)) (every-make _ _ (all-make _ _ (λ t m. table-parts t (all-in _ _ (f .tables-ok) t m) .0)) every-nil))
+        (every-make _ _ (le-leb _ _ (f .few)) (every-make _ _ (all-make _ _ (λ t m. table-parts t (all-in _ _ (f .tables-ok) t m) .0)) (every-make _ _ (le-leb _ _ (f .held)) every-nil)))
         (subst (λ (k : ℕ). (leb 1 k && leb k 8 && leb kind 2 && all sound (tablesView count tables) && all (sourceKnown k) (givenView g)) ≡ true) n
         (and-make _ _ (and-make _ _ (and-make _ _ (and-make _ _ (le-leb _ _ (f .some)) (le-leb _ _ (f .few))) (le-leb _ _ (f .kinds))) (tables-sound (take count tables) (f .tables-ok))) (f .sources)))
 

@@ -24,7 +24,7 @@ use Rattle.system.specs.Views.{tableLaid, sysView}
 use Rattle.system_parts.specs.Views.{Ready}
 use Rattle.system_start.specs.declared.Given.{Given}
 
--- The used ones; all 128 where the count is beyond.
+-- The used ones.
 abbrev pub givenView : Given → List Envelope
 givenView g = take (g .used) (g .list)
 
@@ -32,18 +32,18 @@ givenView g = take (g .used) (g .list)
 abbrev pub tablesView : ℕ → List Table → List (List Rule)
 tablesView count tables = map rulesOf (take count tables)
 
--- The count fits, and each of the first `count` tables is laid out.
-unfoldable pub startLaid : ℕ → List Table → Bool
-startLaid count tables = every (leb count 8 ∷ all tableLaid (take count tables) ∷ [])
+-- The counts fit, and each of the first `count` tables is laid out.
+unfoldable pub startLaid : ℕ → List Table → Given → Bool
+startLaid count tables g = every (leb count 8 ∷ all tableLaid (take count tables) ∷ leb (g .used) 128 ∷ [])
 
 -- The start: 10 for what the lists cannot show, then what the rules say.
 unfoldable pub started : ℕ → ℕ → List Table → Given → Outcome Sys
-started kind count tables g = systems (guard (startLaid count tables) 10 (start base kind (tablesView count tables) (givenView g)))
+started kind count tables g = systems (guard (startLaid count tables g) 10 (start base kind (tablesView count tables) (givenView g)))
 
 -- ---- its parts
 -- Every reason for 10.
 unfoldable pub startFine : ℕ → ℕ → List Table → Given → Bool
-startFine kind count tables g = startLaid count tables && startable kind (tablesView count tables) (givenView g)
+startFine kind count tables g = startLaid count tables g && startable kind (tablesView count tables) (givenView g)
 
 -- The network of a kind with nothing on it.
 abbrev pub emptyNet : Kind → Net

@@ -17,11 +17,10 @@ use types::Envelope;
 use types::Id;
 use types::Kind;
 ghost use mathlib.Core.Path.{_≡_};
-ghost use mathlib.Core.List.{List, []};
+ghost use mathlib.Core.List.{[]};
 ghost use Prim.Native.Nat.{_≤_};
-ghost use lib.ListN.{length, take, replicate};
+ghost use lib.ListN.{take, replicate};
 ghost use Rattle.lists.specs.Lists.{all, pad};
-ghost use Rattle.types.specs.declared.Envelope.{Envelope};
 ghost use Rattle.rules.specs.Outcome.{base};
 ghost use Rattle.rules.specs.Network.{kindOf};
 ghost use Rattle.rules.specs.System.{unstarted};
@@ -34,23 +33,13 @@ ghost use Rattle.system.specs.Views.{zeroTable, sysView, systemOf};
 ghost use Rattle.system_parts.specs.Views.{answeredOf};
 ghost use Rattle.system_start.specs.Views.{givenView, startFine, emptyNet, sendAll, Awaiting, started};
 
-// The given envelopes. A count beyond 128 means all 128.
+// The given envelopes. A count beyond 128 is refused as 10.
 pub struct Given {
     pub list: [Envelope; 128],
     pub used: usize,
 }
 
 // ---- 10, over the whole of it
-// How many of 128 places are used, whatever the count says.
-fn in_use(used: usize) -> usize
-    ensures { λ r. ⌜ (r ≤ 128) × ((l : List Envelope) → length l ≡ 128 → take r l ≡ take used l) ⌝ }
-{
-    if 128 < used {
-        return 128;
-    }
-    used
-}
-
 fn source_known(e: Envelope, count: usize) -> bool
     ensures { λ r. ⌜ r ≡ sourceKnown count e ⌝ }
 {
@@ -72,7 +61,7 @@ fn sources_known(list: [Envelope; 128], used: usize, count: usize) -> bool
     true
 }
 
-// The count first: it bounds the walk over the tables.
+// Each count before the walk that it bounds.
 fn startable(kind: u8, count: usize, tables: [Table; 8], given: Given) -> bool
     ensures { λ r. ⌜ r ≡ startFine kind count tables given ⌝ }
 {
@@ -89,7 +78,10 @@ fn startable(kind: u8, count: usize, tables: [Table; 8], given: Given) -> bool
         return false;
     }
     let list = given.list;
-    let used = in_use(given.used);
+    let used = given.used;
+    if 128 < used {
+        return false;
+    }
     sources_known(list, used, count)
 }
 
@@ -184,12 +176,13 @@ fn fill(n: Network, list: [Envelope; 128], used: usize) -> Sent
 
 // The network of a kind with the given envelopes.
 fn filled(kind: u8, given: Given) -> Sent
+    requires { ⌜ given .used ≤ 128 ⌝ }
     ensures { λ r. ⌜ r ≡ sentOf (networkOf (emptyNet (kindOf kind))) (sendAll (base .room) (givenView given) (emptyNet (kindOf kind))) ⌝ }
 {
     let k = kind_of(kind);
     let n = network::blank(k);
     let list = given.list;
-    let used = in_use(given.used);
+    let used = given.used;
     fill(n, list, used)
 }
 

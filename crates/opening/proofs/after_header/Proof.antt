@@ -16,7 +16,7 @@ use Rattle.script_lists.specs.declared.TablesAt.{TablesAt}
 use Rattle.script_lists.specs.declared.EnvelopesAt.{EnvelopesAt}
 use Rattle.script_lists.proofs.Lists.{tables-tell, envelopes-tell}
 use Rattle.opening.specs.Views.{openedOf}
-use Rattle.opening.proofs.Laws.{no-tables, no-envelopes, lists-read, started-is}
+use Rattle.opening.proofs.Laws.{no-tables, no-envelopes, few-given, lists-read, started-is}
 use borrow.Author.Needs.{needs}
 use Rattle.opening.proofs.after_header.Statement.{statement}
 use Rattle.opening.proofs.after_header.Tie as tie
@@ -70,7 +70,7 @@ returns-3 c =
     (c .start .ensures
     ∙ ap (answeredOf (systemOf blank))
     (started-is (a .kind) (a .count) (drop (a .at) (a .s .now)) (a .at) (omega arith) (h .reads) (ap (λ (r : TablesAt). r .tables) (h .told))
-    (record { list = x .list; used = x .used }) (g .value) (ap (λ (r : EnvelopesAt). r .list) (g .told)) (ap (λ (r : EnvelopesAt). r .used) (g .told))))
+    (record { list = x .list; used = x .used }) (g .value) (few-given _ _ (g .reads)) (ap (λ (r : EnvelopesAt). r .list) (g .told)) (ap (λ (r : EnvelopesAt). r .used) (g .told))))
     ∙ ap openedOf (sym (lists-read version1 (a .kind) (a .count) (drop (a .at) (a .s .now)) (a .at) (h .reads) (g .reads)))
 
 pub after-header-spec : {M : Type 1} → statement M

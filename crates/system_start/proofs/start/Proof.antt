@@ -26,7 +26,10 @@ returns c =
     c .refused .ensures ∙ sym (ap (answeredOf (systemOf blank)) (start-refused (a .kind) (a .count) (a .tables) (a .given) (sym (c .before .before .startable .ensures) ∙ not-true _ (c .before .if1 .taken))))
 
 filled-requires : tie.Need-filled-requires
-filled-requires c κs = search needs
+filled-requires c κs =
+    let s = c .before .before in
+    let a = s .args in
+    fine-of (a .kind) (a .count) (a .tables) (a .given) (tables-say 8 (a .tables) _ (s .good .1 .1 .0) .0) (sym (c .before .startable .ensures) ∙ not-false _ (c .if1 .left)) .held
 
 is-done-requires : tie.Need-is-done-requires
 is-done-requires c κs = search needs

@@ -52,26 +52,37 @@ returns-4 c =
       sym (c .before .tables-ok .ensures) ∙ not-true _ (c .if4 .taken),
     ))
 
-in-use-requires : tie.Need-in-use-requires
-in-use-requires c κs = search needs
+returns-5 : tie.Need-returns-5
+unfolding every
+returns-5 c =
+    let b = c .before in
+    let a = b .before .before .before .before .before .args in
+    let n : length (a .tables) ≡ 8 = search (needs, length-mapped) in
+    sym (fine-tests (a .kind) (a .count) (a .tables) (a .given) n ∙ rw (
+      le-leb _ _ (b .before .before .before .before .if1 .left),
+      le-leb _ _ (b .before .before .before .if2 .left),
+      le-leb _ _ (b .before .before .if3 .left),
+      sym (b .before .tables-ok .ensures) ∙ not-false _ (b .if4 .left),
+      lt-leb _ _ (c .if5 .taken),
+    ))
 
 sources-known-requires : tie.Need-sources-known-requires
 sources-known-requires c κs = search needs
 
-returns-5 : tie.Need-returns-5
+returns-6 : tie.Need-returns-6
 unfolding every
-returns-5 c =
-    let b = c .before .before .before in
+returns-6 c =
+    let d = c .before in
+    let b = d .before in
     let a = b .before .before .before .before .before .args in
     let n : length (a .tables) ≡ 8 = search (needs, length-mapped) in
-    let m : length (a .given .list) ≡ 128 = search (needs, length-mapped) in
     c .sources-known .ensures
-    ∙ ap (all (sourceKnown (a .count))) (c .before .in-use .ensures .1 (a .given .list) m)
     ∙ sym (fine-tests (a .kind) (a .count) (a .tables) (a .given) n ∙ rw (
       le-leb _ _ (b .before .before .before .before .if1 .left),
       le-leb _ _ (b .before .before .before .if2 .left),
       le-leb _ _ (b .before .before .if3 .left),
       sym (b .before .tables-ok .ensures) ∙ not-false _ (b .if4 .left),
+      le-leb _ _ (d .if5 .left),
     ) (and-true _))
 
 pub startable-spec : {M : Type 1} → statement M
@@ -83,6 +94,6 @@ startable-spec =
     returns-3
     tables-ok-requires
     returns-4
-    in-use-requires
+    returns-5
     sources-known-requires
-    returns-5)
+    returns-6)
