@@ -1,4 +1,5 @@
--- Each limit, by computation: the last value that is accepted, and the first that is not.
+-- Each limit, by computation: the last value that is accepted, and the first that is not. Each reason for which a table is unsound,
+-- or a system not well formed, alone in what is otherwise fine. Decimals of more than one digit.
 -- Assumes nothing.
 use Prim.Native.Nat.{ℕ, zero, suc}
 use mathlib.Core.Path.{_≡_, refl}
@@ -6,11 +7,10 @@ use mathlib.Core.Bool.{true, false}
 use mathlib.Core.Option.{none}
 use mathlib.Core.List.{List, [], _∷_, _++_}
 use lib.ListN.{replicate}
-use Rattle.types.specs.declared.Envelope.{Envelope}
 use Rattle.types.specs.declared.Pending.{Pending}
 use Rattle.types.specs.declared.InnerCommand.{InnerCommand}
 use Rattle.types.specs.declared.InnerCommand.the-variants as inner
-use Rattle.types.specs.declared.Kind.the-variants.{Ordered, UnorderedNonDuplicating}
+use Rattle.types.specs.declared.Kind.the-variants.{Ordered, UnorderedDuplicating, UnorderedNonDuplicating}
 use Rattle.types.specs.declared.LastMessage.the-variants as last
 use Rattle.types.specs.declared.Rule.{Rule}
 use Rattle.types.specs.declared.RuleCommand.{RuleCommand}
@@ -18,12 +18,14 @@ use Rattle.types.specs.declared.RuleCommand.the-variants as rule
 use Rattle.types.specs.declared.Storage.the-variants as storage
 use Rattle.rules.specs.Outcome.{done, refused, base}
 use Rattle.rules.specs.Timers.{network, setTimer}
-use Rattle.rules.specs.Network.{Net, kindNamed, send}
+use Rattle.rules.specs.Network.{Net, send}
+use Rattle.rules.specs.Inner.{slotsOf}
 use Rattle.rules.specs.Link.{Durable, fresh, Send, Save, Sent, output}
-use Rattle.rules.specs.System.{Actor, Sys}
+use Rattle.rules.specs.System.{Actor, Sys, withStorage, withMark}
 use Rattle.rules.specs.WellFormed.{sound, wellFormed}
 use Rattle.rules.specs.Start.{startable}
-use Rattle.rules.specs.Sheet.{id, msg, ack, env, pending, ruleBy, ruleOf, net, live, sys, two, a, b}
+use Rattle.rules.specs.Program.{decimal}
+use Rattle.rules.specs.Sheet.{id, msg, ack, env, pending, ruleBy, ruleOf, net, live, sys, two, lastTakenIs, a, b}
 use Rattle.rules.proofs.Opened.{opened}
 
 -- So many copies of a, and nothing else.
@@ -48,6 +50,9 @@ send7 = inner.Send (id 1) (record { 0 = 7 }) ∷ []
 -- A message rule with these commands.
 abbrev doing : List RuleCommand → List Rule
 doing cs = ruleOf 2 0 0 9 0 cs ∷ []
+
+abbrev toSource : ℕ → RuleCommand
+toSource d = rule.Send true (id d) false (record { 0 = 7 })
 
 abbrev inState : ℕ → Actor
 inState n = record { rules = []; crashed = false; timers = []; link = record { durable = fresh; state = n }; storage = none }
@@ -88,6 +93,16 @@ pub record Limits : Type 0 where
   pub rule-17 : sound (replicate 17 (ruleOf 2 0 0 9 0 [])) ≡ false
   pub low-is-high : sound (ruleOf 2 0 9 9 0 [] ∷ []) ≡ true
   pub low-above-high : sound (ruleOf 2 0 10 9 0 [] ∷ []) ≡ false
+  -- a table: start rules have state 0 and touched, an untouched rule keeps its state, "the source" in message rules only, unused fields zero
+  pub start-in-1 : sound (ruleOf 0 1 0 9 1 [] ∷ []) ≡ false
+  pub start-untouched : sound (ruleBy false 1 0 0 9 0 [] ∷ []) ≡ false
+  pub untouched-moves : sound (ruleBy false 2 0 0 9 1 [] ∷ []) ≡ false
+  pub source-of-message : sound (doing (toSource 0 ∷ [])) ≡ true
+  pub source-of-timeout : sound (ruleOf 3 0 0 9 0 (toSource 0 ∷ []) ∷ []) ≡ false
+  pub source-and-destination : sound (doing (toSource 1 ∷ [])) ≡ false
+  pub echo-and-payload : sound (doing (rule.Send false (id 1) true (record { 0 = 7 }) ∷ [])) ≡ false
+  pub echo-and-value : sound (doing (rule.Save true 7 ∷ [])) ≡ false
+  pub unused-not-zero : sound (record { event = 2; state = 0; low = 0; high = 9; touched = true; next = 0; commands = slotsOf (rule.SetTimer 1 ∷ []); used = 0 } ∷ []) ≡ false
   -- a start: actors 1 and 0, 8 and 9, kinds 2 and 3, sources up to the actor count
   pub actor-1 : startable 0 ([] ∷ []) [] ≡ true
   pub actor-0 : startable 0 [] [] ≡ false
@@ -110,8 +125,24 @@ pub record Limits : Type 0 where
   pub timer-32 : wellFormed base (sys Ordered [] (live [] fresh (32 ∷ []) ∷ [])) ≡ false
   pub actors-8 : wellFormed base (sys Ordered [] (replicate 8 (live [] fresh []))) ≡ true
   pub actors-9 : wellFormed base (sys Ordered [] (replicate 9 (live [] fresh []))) ≡ false
+  -- a system: order, counts, the last message, numbers, a crashed actor's timers, the storage
+  pub out-of-order : wellFormed base (sys UnorderedDuplicating (b ∷ a ∷ []) (two [] fresh)) ≡ false
+  pub equal-entries : wellFormed base (sys UnorderedDuplicating (a ∷ a ∷ []) (two [] fresh)) ≡ false
+  pub equal-messages : wellFormed base (sys Ordered (a ∷ a ∷ []) (two [] fresh)) ≡ true
+  pub count-0 : wellFormed base (alone (copies 0) (inState 0)) ≡ false
+  pub last-on-kind-1 : wellFormed base (alone (net UnorderedDuplicating [] (last.Delivered a)) (inState 0)) ≡ true
+  pub last-on-kind-0 : wellFormed base (alone (net Ordered [] (last.Delivered a)) (inState 0)) ≡ false
+  pub next-0 : wellFormed base (sys Ordered [] (two [] (nextIs 0 []))) ≡ false
+  pub pending-at-next : wellFormed base (sys Ordered [] (two [] (nextIs 1 (pending 1 1 7 ∷ [])))) ≡ false
+  pub pending-twice : wellFormed base (sys Ordered [] (two [] (nextIs 2 (pending 1 1 7 ∷ pending 1 1 7 ∷ [])))) ≡ false
+  pub crashed-with-timer : wellFormed base (alone (net Ordered [] last.Nothing) (withMark true (network ∷ []) (inState 0))) ≡ false
+  pub stored-next-0 : wellFormed base (alone (net Ordered [] last.Nothing) (withStorage (nextIs 0 []) (inState 0))) ≡ false
+  pub taken-from-none : wellFormed base (alone (net Ordered [] last.Nothing) (withStorage (lastTakenIs 0) (inState 0))) ≡ false
   pub set-timer-31 : setTimer 31 [] ≡ 31 ∷ []
   pub set-timer-32 : setTimer 32 [] ≡ []
+  -- decimals
+  pub ten : decimal 10 ≡ 49 ∷ 48 ∷ []
+  pub many : decimal 65307 ≡ 54 ∷ 53 ∷ 51 ∷ 48 ∷ 55 ∷ []
 
 pub limits : Limits
 unfolding opened waits
@@ -139,6 +170,15 @@ limits = record {
   rule-17 = refl;
   low-is-high = refl;
   low-above-high = refl;
+  start-in-1 = refl;
+  start-untouched = refl;
+  untouched-moves = refl;
+  source-of-message = refl;
+  source-of-timeout = refl;
+  source-and-destination = refl;
+  echo-and-payload = refl;
+  echo-and-value = refl;
+  unused-not-zero = refl;
   actor-1 = refl;
   actor-0 = refl;
   actor-8 = refl;
@@ -159,6 +199,20 @@ limits = record {
   timer-32 = refl;
   actors-8 = refl;
   actors-9 = refl;
+  out-of-order = refl;
+  equal-entries = refl;
+  equal-messages = refl;
+  count-0 = refl;
+  last-on-kind-1 = refl;
+  last-on-kind-0 = refl;
+  next-0 = refl;
+  pending-at-next = refl;
+  pending-twice = refl;
+  crashed-with-timer = refl;
+  stored-next-0 = refl;
+  taken-from-none = refl;
   set-timer-31 = refl;
   set-timer-32 = refl;
+  ten = refl;
+  many = refl;
 }
