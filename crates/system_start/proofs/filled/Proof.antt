@@ -15,12 +15,12 @@ blank-requires c κs = search needs
 
 fill-requires : tie.Need-fill-requires
 fill-requires c κs =
-    let k = c .before .kind-of .result in
-    (subst NetReady (sym (c .blank .ensures)) (empty-ready k), search needs)
+    let k = c .before .before .kind-of .result in
+    (subst NetReady (sym (c .before .blank .ensures)) (empty-ready k), search needs)
 
 returns : tie.Need-returns
 returns c =
-    c .fill .ensures ∙ empty-sent _ _ _ _ _ (c .before .blank .ensures) (c .before .before .kind-of .ensures) refl
+    c .fill .ensures ∙ empty-sent _ _ _ _ _ (c .before .before .blank .ensures) (c .before .before .before .kind-of .ensures) refl
 
 pub filled-spec : {M : Type 1} → statement M
 filled-spec = tie.close (tie.spec kind-of-requires blank-requires fill-requires returns)

@@ -55,7 +55,7 @@ returns-4 c =
 returns-5 : tie.Need-returns-5
 unfolding every
 returns-5 c =
-    let b = c .before in
+    let b = c .before .before in
     let a = b .before .before .before .before .before .args in
     let n : length (a .tables) ≡ 8 = search (needs, length-mapped) in
     sym (fine-tests (a .kind) (a .count) (a .tables) (a .given) n ∙ rw (
@@ -73,7 +73,7 @@ returns-6 : tie.Need-returns-6
 unfolding every
 returns-6 c =
     let d = c .before in
-    let b = d .before in
+    let b = d .before .before in
     let a = b .before .before .before .before .before .args in
     let n : length (a .tables) ≡ 8 = search (needs, length-mapped) in
     c .sources-known .ensures
