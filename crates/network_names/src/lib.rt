@@ -1,8 +1,9 @@
-// The names of the network's kinds: which kind a lent name is, and a kind's name written into a lent buffer.
+// The names of the network's kinds: which kind a lent name is, and a name written into a lent buffer, by its kind or by its place in the list.
 use types::Kind;
 ghost use mathlib.Core.Path.{_≡_};
-ghost use Rattle.rules.specs.Network.{nameOf, sameBytes, kindNamed};
-ghost use Rattle.network_names.specs.Names.{namedOf, writtenAs, leftOn};
+ghost use lib.ListN.{drop};
+ghost use Rattle.rules.specs.Network.{nameOf, names, sameBytes, kindNamed};
+ghost use Rattle.network_names.specs.Names.{namedOf, outcomeNumber, outcomeKinds, namedNumber, namedKinds, writtenAs, leftOn, listedOf, firstListed, firstLeft};
 
 const ORDERED: [u8; 7] = *b"ordered";
 
@@ -20,6 +21,13 @@ pub enum Named {
 pub enum Written {
     Bytes(usize),
     NoRoom,
+}
+
+// What stands at a place of the list of names: a name, of which so many bytes were written; one that does not fit; none, since the list has ended.
+pub enum Listed {
+    Name(usize),
+    NoRoom,
+    End,
 }
 
 // The same bytes, each at its place, and no more on either side.
@@ -41,6 +49,7 @@ fn same_bytes(a: &[u8], b: &[u8]) -> bool
 
 pub fn from_name(name: &[u8]) -> Named
     ensures { λ r. ⌜ r ≡ namedOf (kindNamed (now (name .entry))) ⌝ }
+    ensures says { λ r. ⌜ (namedNumber r ≡ outcomeNumber (kindNamed (now (name .entry)))) × (namedKinds r ≡ outcomeKinds (kindNamed (now (name .entry)))) ⌝ }
 {
     if same_bytes(name, &ORDERED) {
         return Named::Known(Kind::Ordered);
@@ -78,5 +87,27 @@ pub fn write_name(kind: Kind, out: &mut [u8]) -> Written
         Kind::Ordered => write_bytes(&ORDERED, out),
         Kind::UnorderedDuplicating => write_bytes(&DUPLICATING, out),
         Kind::UnorderedNonDuplicating => write_bytes(&NONDUPLICATING, out),
+    }
+}
+
+fn from_written(w: Written) -> Listed
+    ensures { λ r. ⌜ r ≡ listedOf w ⌝ }
+{
+    match w {
+        Written::Bytes(n) => Listed::Name(n),
+        Written::NoRoom => Listed::NoRoom,
+    }
+}
+
+// The list of names, as an index and an answer: the name at the index is written. Past the last one nothing is.
+pub fn names(index: usize, out: &mut [u8]) -> Listed
+    ensures { λ r. ⌜ r ≡ firstListed (drop index names) (now (out .entry)) ⌝ }
+    ensures { λ _. ⌜ now (out .exit) ≡ firstLeft (drop index names) (now (out .entry)) ⌝ }
+{
+    match index {
+        0 => from_written(write_name(Kind::Ordered, out)),
+        1 => from_written(write_name(Kind::UnorderedDuplicating, out)),
+        2 => from_written(write_name(Kind::UnorderedNonDuplicating, out)),
+        _ => Listed::End,
     }
 }

@@ -6,7 +6,7 @@ use records::HeaderRead;
 ghost use mathlib.Core.Path.{_≡_};
 ghost use lib.ListN.{drop};
 ghost use Rattle.rules.specs.Script.{version1, readScript};
-ghost use Rattle.script.specs.Views.{layoutOf};
+ghost use Rattle.script.specs.Views.{layoutOf, checkSays, layoutSays};
 ghost use Rattle.script.specs.Phases.{tablesOf, rulesOf, envelopesOf, stepOf};
 
 // Whether a script can be read; if not, the place of its first bad record.
@@ -145,6 +145,7 @@ fn step_at(s: &[u8], at: usize, phase: Phase) -> Next
 
 pub fn check_script(s: &[u8]) -> Layout
     ensures { λ r. ⌜ r ≡ layoutOf (readScript version1 (now (s .entry))) ⌝ }
+    ensures says { λ r. ⌜ layoutSays r ≡ checkSays (readScript version1 (now (s .entry))) ⌝ }
 {
     let all = s.len();
     if 65536 < all {

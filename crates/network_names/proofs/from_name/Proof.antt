@@ -4,6 +4,7 @@ use mathlib.Core.Path.{sym, _∙_}
 use borrow.Author.Needs.{needs}
 use Rattle.lists.specs.Lists.{choose}
 use Rattle.rules.specs.Network.{kindNamed, nameOf}
+use Rattle.network_names.proofs.Theorems.{named-all}
 use Rattle.network_names.proofs.from_name.Statement.{statement}
 use Rattle.network_names.proofs.from_name.Tie as tie
 
@@ -15,7 +16,7 @@ same-bytes-requires c κs = search needs
 
 returns : tie.Need-returns
 unfolding kindNamed nameOf choose
-returns c = rw (sym (c .before .same-bytes .ensures) ∙ c .if1 .taken)
+returns c = named-all (c .before .before .before .before .args .name .now) (rw (sym (c .before .same-bytes .ensures) ∙ c .if1 .taken))
 
 slice-aggregate-same-bytes-2 : tie.Need-slice-aggregate-same-bytes-2
 slice-aggregate-same-bytes-2 c = search needs
@@ -25,7 +26,7 @@ same-bytes-requires-2 c κs = search needs
 
 returns-2 : tie.Need-returns-2
 unfolding kindNamed nameOf choose
-returns-2 c = rw (sym (c .before .before .before .before .same-bytes .ensures) ∙ c .before .before .before .if1 .left, sym (c .before .same-bytes2 .ensures) ∙ c .if2 .taken)
+returns-2 c = named-all (c .before .before .before .before .before .before .before .args .name .now) (rw (sym (c .before .before .before .before .same-bytes .ensures) ∙ c .before .before .before .if1 .left, sym (c .before .same-bytes2 .ensures) ∙ c .if2 .taken))
 
 slice-aggregate-same-bytes-3 : tie.Need-slice-aggregate-same-bytes-3
 slice-aggregate-same-bytes-3 c = search needs
@@ -35,11 +36,11 @@ same-bytes-requires-3 c κs = search needs
 
 returns-3 : tie.Need-returns-3
 unfolding kindNamed nameOf choose
-returns-3 c = rw (sym (c .before .before .before .before .before .before .before .same-bytes .ensures) ∙ c .before .before .before .before .before .before .if1 .left, sym (c .before .before .before .before .same-bytes2 .ensures) ∙ c .before .before .before .if2 .left, sym (c .before .same-bytes3 .ensures) ∙ c .if3 .taken)
+returns-3 c = named-all (c .before .before .before .before .before .before .before .before .before .before .args .name .now) (rw (sym (c .before .before .before .before .before .before .before .same-bytes .ensures) ∙ c .before .before .before .before .before .before .if1 .left, sym (c .before .before .before .before .same-bytes2 .ensures) ∙ c .before .before .before .if2 .left, sym (c .before .same-bytes3 .ensures) ∙ c .if3 .taken))
 
 returns-4 : tie.Need-returns-4
 unfolding kindNamed nameOf choose
-returns-4 c = rw (sym (c .before .before .before .before .before .before .before .same-bytes .ensures) ∙ c .before .before .before .before .before .before .if1 .left, sym (c .before .before .before .before .same-bytes2 .ensures) ∙ c .before .before .before .if2 .left, sym (c .before .same-bytes3 .ensures) ∙ c .if3 .left)
+returns-4 c = named-all (c .before .before .before .before .before .before .before .before .before .before .args .name .now) (rw (sym (c .before .before .before .before .before .before .before .same-bytes .ensures) ∙ c .before .before .before .before .before .before .if1 .left, sym (c .before .before .before .before .same-bytes2 .ensures) ∙ c .before .before .before .if2 .left, sym (c .before .same-bytes3 .ensures) ∙ c .if3 .left))
 
 pub from-name-spec : {M : Type 1} → statement M
 from-name-spec =

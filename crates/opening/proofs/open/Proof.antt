@@ -23,7 +23,7 @@ after-header-requires c κs =
     let k = c .before .before in
     let r = k .before .before in
     let a = r .before .before .args in
-    few-actors version1 (a .s .now) 0 (header-found (a .s .now) 0 (headerForm version1) (sym (k .h .given .1) ∙ r .header-at .ensures))
+    few-actors version1 (a .s .now) 0 (header-found (a .s .now) 0 (headerForm version1) (sym (k .h .given .1) ∙ r .header-at .ensures .0))
 
 enum-known-h-2 : tie.Need-enum-known-h-2
 enum-known-h-2 c = search needs
@@ -37,7 +37,7 @@ returns c =
     let r = k .before .before in
     let a = r .before .before .args in
     c .after-header .ensures
-    ∙ ap openedOf (sym (header-read version1 (a .s .now) 0 (header-found (a .s .now) 0 (headerForm version1) (sym (k .h .given .1) ∙ r .header-at .ensures))))
+    ∙ ap openedOf (sym (header-read version1 (a .s .now) 0 (header-found (a .s .now) 0 (headerForm version1) (sym (k .h .given .1) ∙ r .header-at .ensures .0))))
 
 returns-2 : tie.Need-returns-2
 returns-2 c =
@@ -45,7 +45,7 @@ returns-2 c =
     let r = k .before .before in
     let a = r .before .before .args in
     c .unreadable .ensures
-    ∙ ap openedOf (sym (no-header version1 (a .s .now) 0 (header-bad (a .s .now) 0 (headerForm version1) (sym (k .h2 .given .1) ∙ r .header-at .ensures))))
+    ∙ ap openedOf (sym (no-header version1 (a .s .now) 0 (header-bad (a .s .now) 0 (headerForm version1) (sym (k .h2 .given .1) ∙ r .header-at .ensures .0))))
 
 pub open-spec : {M : Type 1} → statement M
 open-spec =

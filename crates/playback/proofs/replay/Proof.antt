@@ -24,14 +24,14 @@ enum-told c = search needs
 put-run-requires : tie.Need-put-run-requires
 put-run-requires c κs =
     let z = c .before in
-    sym (z .before .before .check-script .ensures) ∙ z .enum-told .given .1
+    sym (z .before .before .check-script .ensures .0) ∙ z .enum-told .given .1
 
 same-length : tie.Need-same-length
 same-length c = search needs
 
 returns : tie.Need-returns
 returns c =
-    let t = told-bad (c .before .before .before .before .before .before .before .before .before .before .args .script .now) _ (sym (c .before .before .before .before .before .before .before .check-script .ensures) ∙ c .before .before .before .before .before .layout .given .1) (c .before .before .put-bad .ensures) in
+    let t = told-bad (c .before .before .before .before .before .before .before .before .before .before .args .script .now) _ (sym (c .before .before .before .before .before .before .before .check-script .ensures .0) ∙ c .before .before .before .before .before .layout .given .1) (c .before .before .put-bad .ensures) in
     (t .size, t .bytes)
 
 same-length-2 : tie.Need-same-length-2

@@ -65,7 +65,7 @@ action c = c .before .before .x .given .0 .0
 seen
     : (c : lts.After-seat (action-at-reads.Asked, action-at-reads.Learnt, seat-reads.Asked, seat-reads.Learnt, act-reads.Asked, act-reads.Learnt, number-of-reads.Asked, number-of-reads.Learnt, len-reads.Asked, len-reads.Learnt, answer-line-reads.Asked, answer-line-reads.Learnt, count-answer-reads.Asked, count-answer-reads.Learnt, done-line-reads.Asked, done-line-reads.Learnt) reads.Pre reads.Post Inv-loop μ-loop)
     → actionAt (one (actionForm version1) (drop (c .before .before .before .before .before .loop .at) (c .before .before .before .before .before .before .before .before .before .before .before .args .script .now)) (c .before .before .before .before .before .loop .at)) ≡ Act (action c) (c .before .before .x .given .0 .1 .0)
-seen c = sym (c .before .before .before .before .action-at .ensures) ∙ c .before .before .x .given .1
+seen c = sym (c .before .before .before .before .action-at .ensures .0) ∙ c .before .before .x .given .1
 
 in-arrays : (c : lts.After-seat (action-at-reads.Asked, action-at-reads.Learnt, seat-reads.Asked, seat-reads.Learnt, act-reads.Asked, act-reads.Learnt, number-of-reads.Asked, number-of-reads.Learnt, len-reads.Asked, len-reads.Learnt, answer-line-reads.Asked, answer-line-reads.Learnt, count-answer-reads.Asked, count-answer-reads.Learnt, done-line-reads.Asked, done-line-reads.Learnt) reads.Pre reads.Post Inv-loop μ-loop) → c .seat .result < 8
 in-arrays c = below (now-at c) (c .before .before .before .before .before .loop .inv .ready) (action c) (c .seat .result) (c .seat .ensures) no-actor no-table
@@ -157,7 +157,7 @@ done-line-requires c κs =
     let t = c .before in
     let g = t .before .before .before .loop .inv in
     let r = t .enum-told .given .0 .0 in
-    let e = sym (t .before .before .action-at .ensures) ∙ t .enum-told .given .1 in
+    let e = sym (t .before .before .action-at .ensures .0) ∙ t .enum-told .given .1 in
     (end-fits g r e, omega (arith, g .wide, over g r e .1, g .runs .short))
 
 same-length : tie.Need-same-length Inv-loop μ-loop
@@ -165,7 +165,7 @@ same-length c =
     let t = c .before .before .before .before in
     let g = t .before .before .before .loop .inv in
     let r = t .enum-told .given .0 .0 in
-    let e = sym (t .before .before .action-at .ensures) ∙ t .enum-told .given .1 in
+    let e = sym (t .before .before .action-at .ensures .0) ∙ t .enum-told .given .1 in
     let d = c .before .before .done-line .ensures in
     length-left (end-fits g r e) (record { next = d .0; bytes = d .1 .0 }) ∙ kept-length g
 
@@ -174,7 +174,7 @@ returns c =
     let t = c .before .before .before .before in
     let g = t .before .before .before .loop .inv in
     let r = t .enum-told .given .0 .0 in
-    let e = sym (t .before .before .action-at .ensures) ∙ t .enum-told .given .1 in
+    let e = sym (t .before .before .action-at .ensures .0) ∙ t .enum-told .given .1 in
     let d = c .before .before .done-line .ensures in
     turn-end g r e (record { next = d .0; bytes = d .1 .0 })
 
@@ -187,7 +187,7 @@ same-length-2 c =
 
 returns-2 : tie.Need-returns-2 Inv-loop μ-loop
 returns-2 c =
-    absurd (no-bad (c .before .before .before .loop .inv) (c .enum-told2 .given .0 .0) (sym (c .before .before .action-at .ensures) ∙ c .enum-told2 .given .1))
+    absurd (no-bad (c .before .before .before .loop .inv) (c .enum-told2 .given .0 .0) (sym (c .before .before .action-at .ensures .0) ∙ c .enum-told2 .given .1))
 
 pub run-spec : {M : Type 1} → statement M
 run-spec =

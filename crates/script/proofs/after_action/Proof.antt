@@ -18,13 +18,13 @@ enum-told : tie.Need-enum-told
 enum-told c = search needs
 
 returns : tie.Need-returns
-returns c = ap actionNext (sym (c .before .t .given .1) ∙ c .before .before .before .take-action .ensures) ∙ action-next (takeAction version1 (c .before .before .before .before .before .args .s .now))
+returns c = ap actionNext (sym (c .before .t .given .1) ∙ c .before .before .before .take-action .ensures .0) ∙ action-next (takeAction version1 (c .before .before .before .before .before .args .s .now))
 
 returns-2 : tie.Need-returns-2
-returns-2 c = ap actionNext (sym (c .before .t2 .given .1) ∙ c .before .before .before .take-action .ensures) ∙ action-next (takeAction version1 (c .before .before .before .before .before .args .s .now))
+returns-2 c = ap actionNext (sym (c .before .t2 .given .1) ∙ c .before .before .before .take-action .ensures .0) ∙ action-next (takeAction version1 (c .before .before .before .before .before .args .s .now))
 
 returns-3 : tie.Need-returns-3
-returns-3 c = ap actionNext (sym (c .enum-told .given .1) ∙ c .before .before .take-action .ensures) ∙ action-next (takeAction version1 (c .before .before .before .before .args .s .now))
+returns-3 c = ap actionNext (sym (c .enum-told .given .1) ∙ c .before .before .take-action .ensures .0) ∙ action-next (takeAction version1 (c .before .before .before .before .args .s .now))
 
 pub after-action-spec : {M : Type 1} → statement M
 after-action-spec =

@@ -24,12 +24,12 @@ returns : tie.Need-returns
 returns c =
     let q : Phase = envelopesOf (c .before .before .before .before .before .before .args .left) in
     rw (c .envelopes .ensures)
-    (ap (envelopeNext q) (sym (c .before .before .e .given .1) ∙ c .before .before .before .before .read-envelope .ensures) ∙ envelope-next q (recordOf (envelopeForm version1) (c .before .before .before .before .before .before .args .s .now)))
+    (ap (envelopeNext q) (sym (c .before .before .e .given .1) ∙ c .before .before .before .before .read-envelope .ensures .0) ∙ envelope-next q (recordOf (envelopeForm version1) (c .before .before .before .before .before .before .args .s .now)))
 
 returns-2 : tie.Need-returns-2
 returns-2 c =
     let q : Phase = envelopesOf (c .before .before .before .before .args .left) in
-    ap (envelopeNext q) (sym (c .enum-told .given .1) ∙ c .before .before .read-envelope .ensures) ∙ envelope-next q (recordOf (envelopeForm version1) (c .before .before .before .before .args .s .now))
+    ap (envelopeNext q) (sym (c .enum-told .given .1) ∙ c .before .before .read-envelope .ensures .0) ∙ envelope-next q (recordOf (envelopeForm version1) (c .before .before .before .before .args .s .now))
 
 pub after-envelope-spec : {M : Type 1} → statement M
 after-envelope-spec =

@@ -22,10 +22,10 @@ enum-told c = search needs
 returns : tie.Need-returns
 returns c =
     rw (c .envelopes .ensures)
-    (ap (countNext envelopesOf) (sym (c .before .before .c .given .1) ∙ c .before .before .before .before .read-envelope-count .ensures) ∙ count-next envelopesOf (recordOf (envelopeCountForm version1) (c .before .before .before .before .before .before .args .s .now)))
+    (ap (countNext envelopesOf) (sym (c .before .before .c .given .1) ∙ c .before .before .before .before .read-envelope-count .ensures .0) ∙ count-next envelopesOf (recordOf (envelopeCountForm version1) (c .before .before .before .before .before .before .args .s .now)))
 
 returns-2 : tie.Need-returns-2
-returns-2 c = ap (countNext envelopesOf) (sym (c .enum-told .given .1) ∙ c .before .before .read-envelope-count .ensures) ∙ count-next envelopesOf (recordOf (envelopeCountForm version1) (c .before .before .before .before .args .s .now))
+returns-2 c = ap (countNext envelopesOf) (sym (c .enum-told .given .1) ∙ c .before .before .read-envelope-count .ensures .0) ∙ count-next envelopesOf (recordOf (envelopeCountForm version1) (c .before .before .before .before .args .s .now))
 
 pub after-envelope-count-spec : {M : Type 1} → statement M
 after-envelope-count-spec =

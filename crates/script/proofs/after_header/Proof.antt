@@ -23,10 +23,10 @@ enum-told c = search needs
 
 returns : tie.Need-returns
 returns c =
-    rw (c .tables .ensures) (ap headerNext (sym (c .before .before .before .h .given .1) ∙ c .before .before .before .before .before .read-header .ensures) ∙ header-next (recordOf (headerForm version1) (c .before .before .before .before .before .before .before .args .s .now)))
+    rw (c .tables .ensures) (ap headerNext (sym (c .before .before .before .h .given .1) ∙ c .before .before .before .before .before .read-header .ensures .0) ∙ header-next (recordOf (headerForm version1) (c .before .before .before .before .before .before .before .args .s .now)))
 
 returns-2 : tie.Need-returns-2
-returns-2 c = ap headerNext (sym (c .enum-told .given .1) ∙ c .before .before .read-header .ensures) ∙ header-next (recordOf (headerForm version1) (c .before .before .before .before .args .s .now))
+returns-2 c = ap headerNext (sym (c .enum-told .given .1) ∙ c .before .before .read-header .ensures .0) ∙ header-next (recordOf (headerForm version1) (c .before .before .before .before .args .s .now))
 
 pub after-header-spec : {M : Type 1} → statement M
 after-header-spec =

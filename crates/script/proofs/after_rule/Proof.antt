@@ -17,7 +17,7 @@ returns : tie.Need-returns
 returns c =
     let a = c .before .before .before .args in
     let q : Phase = rulesOf (a .actors) (a .left) in
-    ap (sizeNext q) (sym (c .if1 .taken)) ∙ ap (λ (r : RuleRead). sizeNext q (r .size)) (c .before .read-rule .ensures) ∙ rule-next (a .s .now) q
+    ap (sizeNext q) (sym (c .if1 .taken)) ∙ ap (λ (r : RuleRead). sizeNext q (r .size)) (c .before .read-rule .ensures .0) ∙ rule-next (a .s .now) q
 
 rules-requires : tie.Need-rules-requires
 rules-requires c κs = search needs
@@ -29,7 +29,7 @@ returns-2 c =
     let n = c .before .before .read-rule .result .size in
     let e : suc (n - 1) ≡ n = omega arith in
     rw (c .rules .ensures)
-    (ap (On q) (sym e) ∙ ap (sizeNext q) e ∙ ap (λ (r : RuleRead). sizeNext q (r .size)) (c .before .before .read-rule .ensures) ∙ rule-next (a .s .now) q)
+    (ap (On q) (sym e) ∙ ap (sizeNext q) e ∙ ap (λ (r : RuleRead). sizeNext q (r .size)) (c .before .before .read-rule .ensures .0) ∙ rule-next (a .s .now) q)
 
 pub after-rule-spec : {M : Type 1} → statement M
 after-rule-spec = tie.close (tie.spec read-rule-requires returns rules-requires returns-2)

@@ -23,12 +23,12 @@ returns : tie.Need-returns
 returns c =
     let a = c .before .before .before .before .before .before .args in
     rw (c .rules .ensures)
-    (ap (countNext (rulesOf (a .actors))) (sym (c .before .before .c .given .1) ∙ c .before .before .before .before .read-rule-count .ensures) ∙ count-next (rulesOf (a .actors)) (recordOf ruleCountForm (c .before .before .before .before .before .before .args .s .now)))
+    (ap (countNext (rulesOf (a .actors))) (sym (c .before .before .c .given .1) ∙ c .before .before .before .before .read-rule-count .ensures .0) ∙ count-next (rulesOf (a .actors)) (recordOf ruleCountForm (c .before .before .before .before .before .before .args .s .now)))
 
 returns-2 : tie.Need-returns-2
 returns-2 c =
     let a = c .before .before .before .before .args in
-    ap (countNext (rulesOf (a .actors))) (sym (c .enum-told .given .1) ∙ c .before .before .read-rule-count .ensures) ∙ count-next (rulesOf (a .actors)) (recordOf ruleCountForm (c .before .before .before .before .args .s .now))
+    ap (countNext (rulesOf (a .actors))) (sym (c .enum-told .given .1) ∙ c .before .before .read-rule-count .ensures .0) ∙ count-next (rulesOf (a .actors)) (recordOf ruleCountForm (c .before .before .before .before .args .s .now))
 
 pub after-rule-count-spec : {M : Type 1} → statement M
 after-rule-count-spec =

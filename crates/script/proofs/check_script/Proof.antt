@@ -13,6 +13,7 @@ use Rattle.script.specs.declared.Next.the-variants.{On, End}
 use Rattle.script.specs.Views.{layoutOf}
 use Rattle.script.specs.Phases.{stepOf}
 use Rattle.script.proofs.Due.{due, ahead, due-step, step-size, step-end, closed-none, closed-some, not-long, long}
+use Rattle.script.proofs.Says.{layout-both}
 use Rattle.script.proofs.check_script.Statement.{statement}
 use Rattle.script.proofs.check_script.Tie as tie
 use Rattle.script.proofs.check_script.Reads as reads
@@ -27,7 +28,8 @@ abbrev μ-loop : tie.MeasureT-loop
 μ-loop s all at₀ phase₀ at phase = length s - at
 
 returns : tie.Need-returns Inv-loop μ-loop
-returns c = sym (long version1 (c .before .before .args .s .now) (c .if1 .taken))
+returns c =
+    let s = c .before .before .args .s .now in layout-both (readScript version1 s) (sym (long version1 s (c .if1 .taken)))
 
 loop-holds : tie.Need-loop-holds Inv-loop μ-loop
 loop-holds c = (search needs, search needs, refl)
@@ -123,17 +125,17 @@ returns-2 c =
     let s = c .before .before .before .before .before .before .before .before .args .s .now in
     let n = c .before .before .t2 .given .0 .0 in
     let e : length (drop n (drop (l .at) s)) ≡ 0 = omega (arith, length-drop n (drop (l .at) s), length-drop (l .at) s) in
-    sym (closed-none (drop n (drop (l .at) s)) (l .at + n) e) ∙ ended (c .before)
+    layout-both (readScript version1 s) (sym (closed-none (drop n (drop (l .at) s)) (l .at + n) e) ∙ ended (c .before))
 
 returns-3 : tie.Need-returns-3 Inv-loop μ-loop
 returns-3 c =
     let l = c .before .before .before .before .before .loop in
     let s = c .before .before .before .before .before .before .before .before .args .s .now in
     let n = c .before .before .t2 .given .0 .0 in
-    sym
+    layout-both (readScript version1 s) (sym
     (closed-some (drop n (drop (l .at) s)) (l .at + n)
     (λ e. c .if2 .left (omega (arith, end-size (c .before), length-drop n (drop (l .at) s), length-drop (l .at) s))))
-    ∙ ended (c .before)
+    ∙ ended (c .before))
 
 enum-told : tie.Need-enum-told Inv-loop μ-loop
 enum-told c = search needs
@@ -142,10 +144,10 @@ returns-4 : tie.Need-returns-4 Inv-loop μ-loop
 returns-4 c =
     let l = c .before .before .before .loop in
     let s = c .before .before .before .before .before .before .args .s .now in
-    sym
+    layout-both (readScript version1 s) (sym
     (due-step version1 (l .phase) (drop (l .at) s) (l .at)
     ∙ ap (ahead version1 (drop (l .at) s) (l .at)) (sym (c .before .before .step-at .ensures) ∙ c .enum-told .given .1))
-    ∙ found s (l .inv .1) (l .inv .2)
+    ∙ found s (l .inv .1) (l .inv .2))
 
 pub check-script-spec : {M : Type 1} → statement M
 check-script-spec =

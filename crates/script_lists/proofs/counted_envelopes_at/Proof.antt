@@ -52,7 +52,7 @@ loop-again c =
     let f = c .before .before .before in
     let l = f .before .before .loop in
     let a = f .before .before .before .before .before .args in
-    reads-more 128 zeroEnvelope (one (envelopeForm version1)) (a .s .now) (a .at) (a .count) (l .inv) (omega arith) (omega arith) (envelope-found (a .s .now) (l .next) (envelopeForm version1) (sym (c .before .x .given .1) ∙ f .envelope-at .ensures))
+    reads-more 128 zeroEnvelope (one (envelopeForm version1)) (a .s .now) (a .at) (a .count) (l .inv) (omega arith) (omega arith) (envelope-found (a .s .now) (l .next) (envelopeForm version1) (sym (c .before .x .given .1) ∙ f .envelope-at .ensures .0))
 
 enum-known-x-2 : tie.Need-enum-known-x-2 Inv-loop μ-loop
 enum-known-x-2 c = search needs
@@ -66,7 +66,7 @@ returns c =
     let l = f .before .before .loop in
     let a = f .before .before .before .before .before .args in
     c .bad-envelopes .ensures
-    ∙ ap envelopesAt (sym (reads-bad 128 zeroEnvelope (one (envelopeForm version1)) (a .s .now) (a .at) (a .count) (l .inv) (omega arith) (envelope-bad (a .s .now) (l .next) (envelopeForm version1) (sym (c .before .before .x2 .given .1) ∙ f .envelope-at .ensures))))
+    ∙ ap envelopesAt (sym (reads-bad 128 zeroEnvelope (one (envelopeForm version1)) (a .s .now) (a .at) (a .count) (l .inv) (omega arith) (envelope-bad (a .s .now) (l .next) (envelopeForm version1) (sym (c .before .before .x2 .given .1) ∙ f .envelope-at .ensures .0))))
 
 returns-2 : tie.Need-returns-2 Inv-loop μ-loop
 returns-2 c =

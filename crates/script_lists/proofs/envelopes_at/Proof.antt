@@ -22,7 +22,7 @@ counted-envelopes-at-requires c κs =
     let r = c .before .before .before in
     let a = r .before .before .args in
     few-envelopes (drop (a .at) (a .s .now)) (a .at)
-    (count-found (a .s .now) (a .at) (envelopeCountForm version1) (sym (c .before .c .given .1) ∙ r .envelope-count-at .ensures))
+    (count-found (a .s .now) (a .at) (envelopeCountForm version1) (sym (c .before .c .given .1) ∙ r .envelope-count-at .ensures .0))
 
 enum-known-c-2 : tie.Need-enum-known-c-2
 enum-known-c-2 c = search needs
@@ -37,7 +37,7 @@ returns c =
     let a = r .before .before .args in
     c .counted-envelopes-at .ensures
     ∙ ap (λ (m : Reading ℕ). envelopesAt (onward m (λ k. repeat k (one (envelopeForm version1)))))
-    (sym (count-found (a .s .now) (a .at) (envelopeCountForm version1) (sym (c .before .before .c .given .1) ∙ r .envelope-count-at .ensures)))
+    (sym (count-found (a .s .now) (a .at) (envelopeCountForm version1) (sym (c .before .before .c .given .1) ∙ r .envelope-count-at .ensures .0)))
 
 returns-2 : tie.Need-returns-2
 unfolding envelopesFrom onward
@@ -46,7 +46,7 @@ returns-2 c =
     let a = r .before .before .args in
     c .bad-envelopes .ensures
     ∙ ap (λ (m : Reading ℕ). envelopesAt (onward m (λ k. repeat k (one (envelopeForm version1)))))
-    (sym (count-bad (a .s .now) (a .at) (envelopeCountForm version1) (sym (c .before .before .c2 .given .1) ∙ r .envelope-count-at .ensures)))
+    (sym (count-bad (a .s .now) (a .at) (envelopeCountForm version1) (sym (c .before .before .c2 .given .1) ∙ r .envelope-count-at .ensures .0)))
 
 pub envelopes-at-spec : {M : Type 1} → statement M
 envelopes-at-spec =

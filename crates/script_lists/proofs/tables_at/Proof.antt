@@ -40,7 +40,7 @@ returns c =
     let a = c .before .before .before .before .before .before .before .before .args in
     let f = c .before .before .before .table-at in
     c .bad-tables .ensures
-    ∙ ap tablesHeld (sym (reads-bad 8 zeroTable tableReader (a .s .now) (a .at) (a .count) (l .inv) (omega arith) (table-bad (a .s .now) (l .next) (f .ensures) (not-true _ (c .before .if1 .taken)))))
+    ∙ ap tablesHeld (sym (reads-bad 8 zeroTable tableReader (a .s .now) (a .at) (a .count) (l .inv) (omega arith) (table-bad (a .s .now) (l .next) (f .ensures .0) (not-true _ (c .before .if1 .taken)))))
     ∙ tables-held (a .count) (drop (a .at) (a .s .now)) (a .at)
 
 mul-tables : tie.Need-mul-tables Inv-loop μ-loop
@@ -60,7 +60,7 @@ loop-again c =
     let l = c .before .before .before .before .loop in
     let a = c .before .before .before .before .before .before .before .args in
     let f = c .before .before .table-at in
-    reads-more 8 zeroTable tableReader (a .s .now) (a .at) (a .count) (l .inv) (omega arith) (omega arith) (table-found (a .s .now) (l .next) (f .ensures) (not-false _ (c .if1 .left)))
+    reads-more 8 zeroTable tableReader (a .s .now) (a .at) (a .count) (l .inv) (omega arith) (omega arith) (table-found (a .s .now) (l .next) (f .ensures .0) (not-false _ (c .if1 .left)))
 
 returns-2 : tie.Need-returns-2 Inv-loop μ-loop
 returns-2 c =

@@ -2,6 +2,9 @@ use native.Mathlib.Omega.{arith}
 use mathlib.Core.Path.{sym, ap, _∙_}
 use Rattle.rules.specs.Script.{version1, headerForm}
 use Rattle.script_parts.proofs.Answers.{fits, tells, headerSize, headerHere, header-answers}
+use lib.ListN.{drop}
+use Rattle.layout.specs.Read.{one}
+use Rattle.script_parts.proofs.Says.{header-both}
 use borrow.Author.Needs.{needs}
 use Rattle.script_parts.proofs.header_at.Statement.{statement}
 use Rattle.script_parts.proofs.header_at.Tie as tie
@@ -19,7 +22,7 @@ add-t8 : tie.Need-add-t8
 add-t8 c =
     let r = c .before .before .before in
     let a = r .before .before .before .args in
-    omega (arith, fits header-answers (headerForm version1) (a .s .now) (a .at) (r .before .from .ensures) (r .read-header .ensures), ap headerSize (c .before .h .given .1))
+    omega (arith, fits header-answers (headerForm version1) (a .s .now) (a .at) (r .before .from .ensures) (r .read-header .ensures .0), ap headerSize (c .before .h .given .1))
 
 enum-told : tie.Need-enum-told
 enum-told c = search needs
@@ -28,13 +31,13 @@ returns : tie.Need-returns
 returns c =
     let r = c .before .before .before in
     let a = r .before .before .before .args in
-    ap (headerHere (a .at)) (sym (c .before .h .given .1)) ∙ tells header-answers (headerForm version1) (a .s .now) (a .at) (r .before .from .ensures) (r .read-header .ensures)
+    header-both (one (headerForm version1) (drop (a .at) (a .s .now)) (a .at)) (ap (headerHere (a .at)) (sym (c .before .h .given .1)) ∙ tells header-answers (headerForm version1) (a .s .now) (a .at) (r .before .from .ensures) (r .read-header .ensures .0))
 
 returns-2 : tie.Need-returns-2
 returns-2 c =
     let r = c .before .before in
     let a = r .before .before .before .args in
-    ap (headerHere (a .at)) (sym (c .enum-told .given .1)) ∙ tells header-answers (headerForm version1) (a .s .now) (a .at) (r .before .from .ensures) (r .read-header .ensures)
+    header-both (one (headerForm version1) (drop (a .at) (a .s .now)) (a .at)) (ap (headerHere (a .at)) (sym (c .enum-told .given .1)) ∙ tells header-answers (headerForm version1) (a .s .now) (a .at) (r .before .from .ensures) (r .read-header .ensures .0))
 
 pub header-at-spec : {M : Type 1} → statement M
 header-at-spec =

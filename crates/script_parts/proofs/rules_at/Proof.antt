@@ -41,7 +41,7 @@ returns c =
     let a = c .before .before .before .before .before .before .before .before .args in
     let f = c .before .before .before .rule-at in
     c .bad-table .ensures
-    ∙ ap tableAt (sym (reads-bad 16 zeroRule (one ruleForm) (a .s .now) (a .at) (a .count) (l .inv) (omega arith) (rule-bad (a .s .now) (l .next) (f .ensures) (not-true _ (c .before .if1 .taken)))))
+    ∙ ap tableAt (sym (reads-bad 16 zeroRule (one ruleForm) (a .s .now) (a .at) (a .count) (l .inv) (omega arith) (rule-bad (a .s .now) (l .next) (f .ensures .0) (not-true _ (c .before .if1 .taken)))))
 
 mul-rules : tie.Need-mul-rules Inv-loop μ-loop
 mul-rules c = search needs
@@ -60,7 +60,7 @@ loop-again c =
     let l = c .before .before .before .before .loop in
     let a = c .before .before .before .before .before .before .before .args in
     let f = c .before .before .rule-at in
-    reads-more 16 zeroRule (one ruleForm) (a .s .now) (a .at) (a .count) (l .inv) (omega arith) (omega arith) (rule-found (a .s .now) (l .next) (f .ensures) (not-false _ (c .if1 .left)))
+    reads-more 16 zeroRule (one ruleForm) (a .s .now) (a .at) (a .count) (l .inv) (omega arith) (omega arith) (rule-found (a .s .now) (l .next) (f .ensures .0) (not-false _ (c .if1 .left)))
 
 returns-2 : tie.Need-returns-2 Inv-loop μ-loop
 returns-2 c =

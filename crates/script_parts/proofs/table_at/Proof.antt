@@ -5,6 +5,7 @@ use Rattle.layout.specs.Read.{Reading, one, onward, repeat}
 use Rattle.rules.specs.Script.{ruleCountForm, ruleForm, tableFrom}
 use Rattle.script_parts.specs.Views.{tableAt}
 use Rattle.script_parts.proofs.Readings.{count-found, count-bad, few-rules}
+use Rattle.script_parts.proofs.Says.{table-both}
 use borrow.Author.Needs.{needs}
 use Rattle.script_parts.proofs.table_at.Statement.{statement}
 use Rattle.script_parts.proofs.table_at.Tie as tie
@@ -19,7 +20,7 @@ rules-at-requires : tie.Need-rules-at-requires
 rules-at-requires c κs =
     let r = c .before .before .before in
     let a = r .before .before .args in
-    few-rules (drop (a .at) (a .s .now)) (a .at) (count-found (a .s .now) (a .at) ruleCountForm (sym (c .before .c .given .1) ∙ r .rule-count-at .ensures))
+    few-rules (drop (a .at) (a .s .now)) (a .at) (count-found (a .s .now) (a .at) ruleCountForm (sym (c .before .c .given .1) ∙ r .rule-count-at .ensures .0))
 
 enum-known-c-2 : tie.Need-enum-known-c-2
 enum-known-c-2 c = search needs
@@ -32,18 +33,18 @@ unfolding tableFrom onward
 returns c =
     let r = c .before .before .before .before in
     let a = r .before .before .args in
-    c .rules-at .ensures
+    table-both (tableFrom (drop (a .at) (a .s .now)) (a .at)) (c .rules-at .ensures
     ∙ ap (λ (m : Reading ℕ). tableAt (onward m (λ k. repeat k (one ruleForm))))
-    (sym (count-found (a .s .now) (a .at) ruleCountForm (sym (c .before .before .c .given .1) ∙ r .rule-count-at .ensures)))
+    (sym (count-found (a .s .now) (a .at) ruleCountForm (sym (c .before .before .c .given .1) ∙ r .rule-count-at .ensures .0))))
 
 returns-2 : tie.Need-returns-2
 unfolding tableFrom onward
 returns-2 c =
     let r = c .before .before .before .before in
     let a = r .before .before .args in
-    c .bad-table .ensures
+    table-both (tableFrom (drop (a .at) (a .s .now)) (a .at)) (c .bad-table .ensures
     ∙ ap (λ (m : Reading ℕ). tableAt (onward m (λ k. repeat k (one ruleForm))))
-    (sym (count-bad (a .s .now) (a .at) ruleCountForm (sym (c .before .before .c2 .given .1) ∙ r .rule-count-at .ensures)))
+    (sym (count-bad (a .s .now) (a .at) ruleCountForm (sym (c .before .before .c2 .given .1) ∙ r .rule-count-at .ensures .0))))
 
 pub table-at-spec : {M : Type 1} → statement M
 table-at-spec =

@@ -17,7 +17,7 @@ enum-told-2 : tie.Need-enum-told-2
 enum-told-2 c = search needs
 
 states-of-requires : tie.Need-states-of-requires
-states-of-requires c κs = sym (c .before .before .before .check-script .ensures) ∙ c .before .enum-told2 .given .1
+states-of-requires c κs = sym (c .before .before .before .check-script .ensures .0) ∙ c .before .enum-told2 .given .1
 
 returns : tie.Need-returns
 returns c = search needs

@@ -60,7 +60,7 @@ going
     → let g = c .before .before .before .before .before .loop .inv .0 in
     Acts (c .before .before .before .before .before .before .before .before .before .before .before .args .script .now) (c .before .before .before .before .before .loop .at) (g .left) (g .last) (g .actions) (action c) (c .before .before .x .given .0 .1 .0)
 going c =
-    acts (c .before .before .before .before .before .before .before .before .before .before .before .args .script .now) (c .before .before .before .before .before .loop .at) (action c) (c .before .before .x .given .0 .1 .0) (c .before .before .before .before .before .loop .inv .0 .reads) (sym (c .before .before .before .before .action-at .ensures) ∙ c .before .before .x .given .1)
+    acts (c .before .before .before .before .before .before .before .before .before .before .before .args .script .now) (c .before .before .before .before .before .loop .at) (action c) (c .before .before .x .given .0 .1 .0) (c .before .before .before .before .before .loop .inv .0 .reads) (sym (c .before .before .before .before .action-at .ensures .0) ∙ c .before .before .x .given .1)
 
 in-arrays : (c : lts.After-seat (action-at-reads.Asked, action-at-reads.Learnt, seat-reads.Asked, seat-reads.Learnt, act-reads.Asked, act-reads.Learnt, put-reads.Asked, put-reads.Learnt) reads.Pre reads.Post Inv-loop μ-loop) → c .seat .result < 8
 in-arrays c = below (now-at c) (c .before .before .before .before .before .loop .inv .0 .ready) (action c) (c .seat .result) (c .seat .ensures) no-actor no-table

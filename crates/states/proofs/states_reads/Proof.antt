@@ -17,10 +17,10 @@ enum-told-2 : tie.Need-enum-told-2
 enum-told-2 c = search needs
 
 returns : tie.Need-returns
-returns c = sym (ap isGood (sym (c .before .before .check-script .ensures) ∙ c .enum-told .given .1))
+returns c = sym (ap isGood (sym (c .before .before .check-script .ensures .0) ∙ c .enum-told .given .1))
 
 returns-2 : tie.Need-returns-2
-returns-2 c = sym (ap isGood (sym (c .before .before .check-script .ensures) ∙ c .enum-told2 .given .1))
+returns-2 c = sym (ap isGood (sym (c .before .before .check-script .ensures .0) ∙ c .enum-told2 .given .1))
 
 pub states-reads-spec : {M : Type 1} → statement M
 states-reads-spec =
