@@ -4,9 +4,13 @@ use Prim.Native.Nat.{ℕ, zero, suc, _+_, _≤_, _<_}
 use native.Mathlib.Omega.{arith}
 use mathlib.Core.Path.{_≡_, refl, sym, ap, _∙_, subst}
 use mathlib.Core.Bool.{Bool, true, false}
-use mathlib.Core.List.{List, [], _∷_}
+use mathlib.Core.List.{List, [], _∷_, _++_}
 use lib.Dec.{leb}
-use lib.ListN.{length, drop, length-drop}
+use lib.ListN.{length, take, drop, length-drop, length-append}
+use lib.Seq.{take-at}
+use borrow.Author.Tests.{le-leb}
+use Rattle.io.specs.Counts.{Counts}
+use Rattle.io.proofs.Counting.{counts}
 use Rattle.lists.specs.Lists.{choose}
 use Rattle.layout.specs.Form.{Form, Got, got, bad, recordOf}
 use Rattle.layout.specs.Read.{Reading, read, badAt, Reader, placed, one, onward, joining, repeat}
@@ -124,3 +128,11 @@ output-fits s k = go (layoutOf (readScript version1 s)) refl
     go : (l : Layout) → layoutOf (readScript version1 s) ≡ l → length (output base version1 s) ≤ 1507488
     go layout.Good h = let n = good-short s h in omega (arith, n, good-longest s (parts-of version1 s h) n)
     go (layout.Bad p) h = bad-fits s p k h
+
+-- ---- the output, at the start of a buffer in which it fits
+pub put-all : (l out left : List ℕ) (r : ℕ) → length l ≤ length out → r ≡ length l → left ≡ choose (leb r (length out)) (l ++ drop r out) out → Counts r left × (take r left ≡ l)
+unfolding choose
+put-all l out left r h e b =
+    let f : left ≡ l ++ drop r out = b ∙ rw (le-leb r (length out) (omega arith)) in
+    let n = ap length f ∙ length-append l (drop r out) in
+    (counts _ _ (omega arith), ap (take r) f ∙ take-at l (drop r out) r (sym e))

@@ -1,18 +1,19 @@
 // Reads a script, has it replayed, and writes what comes out: all that the replay programs do, for more than one of them.
-// What the world gives and takes no contract can say. What can be decided without it is decided by functions of their own, each with an equation.
 use libc::STDERR_FILENO;
 use libc::STDIN_FILENO;
 use libc::STDOUT_FILENO;
 use playback::replay;
+use reading::Input;
+use reading::Source;
+use reading::read_all;
+use reading::source_of;
 ghost use mathlib.Core.Path.{_≡_};
-ghost use Prim.Native.Nat.{_≤_};
 ghost use lib.ListN.{length, take};
 ghost use Rattle.io.specs.Counts.{Counts};
-ghost use Rattle.libc.specs.Io.{Moved};
 ghost use Rattle.rules.specs.Outcome.{base};
 ghost use Rattle.rules.specs.Script.{version1};
 ghost use Rattle.rules.specs.Program.{output};
-ghost use Rattle.replay_io.specs.Views.{Sized, gaveOf, Within, nextOf, Last, sourceOf};
+ghost use Rattle.replay_io.specs.Views.{Sized};
 
 // A script has at most 65,536 bytes. One byte more is read, since a longer script is refused by its length alone.
 fn script_room() -> [u8; 65537]
@@ -26,87 +27,6 @@ fn output_room() -> [u8; 1507488]
     ensures { λ r. ⌜ Sized 1507488 r ⌝ }
 {
     [0; 1507488]
-}
-
-// What one read came to.
-enum Gave {
-    Failed,
-    Ended,
-    More(usize),
-}
-
-// What all the reads came to: one failed, or there are so many bytes.
-enum Input {
-    Broken,
-    Whole(usize),
-}
-
-// What follows a read: another from this place on, or none.
-enum Next {
-    From(usize),
-    Over(Input),
-}
-
-// What the answer of `libc::read` means, where that was to fill `part`.
-fn judged(got: isize, part: &[u8]) -> Gave
-    requires { ⌜ Moved (length (now part)) got ⌝ }
-    ensures { λ r. ⌜ r ≡ gaveOf got ⌝ }
-{
-    if got < 0 {
-        return Gave::Failed;
-    }
-    let n = io::count(got, part);
-    if n == 0 {
-        return Gave::Ended;
-    }
-    Gave::More(n)
-}
-
-// One read, from the place `at` on. What stands before that place stays.
-fn read_on(fd: i32, script: &mut [u8], at: usize) -> Gave
-    requires { ⌜ at ≤ length (now script) ⌝ }
-    ensures kept { λ _. ⌜ take at (now (script .exit)) ≡ take at (now (script .entry)) ⌝ }
-    ensures within { λ r. ⌜ Within r at (length (now (script .exit))) ⌝ }
-{
-    let got = libc::read(fd, &mut script[at..]);
-    judged(got, &script[at..])
-}
-
-// After a read at the place `at`, in a buffer of `room` bytes: the input ends, a read failed, the buffer is full, or there is more to read.
-fn next_after(gave: Gave, at: usize, room: usize) -> Next
-    requires { ⌜ Within gave at room ⌝ }
-    ensures { λ r. ⌜ r ≡ nextOf gave at room ⌝ }
-{
-    match gave {
-        Gave::Failed => Next::Over(Input::Broken),
-        Gave::Ended => Next::Over(Input::Whole(at)),
-        Gave::More(n) => {
-            if at + n < room {
-                Next::From(at + n)
-            } else {
-                Next::Over(Input::Whole(at + n))
-            }
-        }
-    }
-}
-
-// Reads until nothing follows. What it answers is what follows from the last read.
-fn read_all(fd: i32, script: &mut [u8]) -> Input
-    ensures { λ r. ⌜ Last r (length (now (script .exit))) ⌝ }
-{
-    let mut at = 0;
-    loop {
-        let gave = read_on(fd, script, at);
-        let next = next_after(gave, at, script.len());
-        match next {
-            Next::Over(input) => {
-                return input;
-            }
-            Next::From(place) => {
-                at = place;
-            }
-        }
-    }
 }
 
 // Has the script replayed: the output stands at the start of the buffer, and always fits.
@@ -141,26 +61,6 @@ fn replay_from(fd: i32, name: &[u8]) {
         Input::Broken => os::fail(name),
         Input::Whole(size) => write_replay(&room[..size]),
     }
-}
-
-// Where the script is: on standard input, in the file that the one argument names, or nowhere, since there are more arguments.
-enum Source {
-    Input,
-    Argument,
-    Wrong,
-}
-
-// The program's own name is counted too.
-fn source_of(count: usize) -> Source
-    ensures { λ r. ⌜ r ≡ sourceOf count ⌝ }
-{
-    if count < 2 {
-        return Source::Input;
-    }
-    if count == 2 {
-        return Source::Argument;
-    }
-    Source::Wrong
 }
 
 // Replays the script that the program's arguments ask for.

@@ -2,8 +2,7 @@
 -- Assumes nothing.
 use native.Mathlib.Omega.{arith}
 use borrow.Author.Needs.{needs}
-use Rattle.replay_io.proofs.Laws.{put-all}
-use Rattle.replay_io.proofs.Room.{output-fits}
+use Rattle.replay_io.proofs.Room.{output-fits, put-all}
 use Rattle.replay_io.proofs.put_output.Statement.{statement}
 use Rattle.replay_io.proofs.put_output.Tie as tie
 

@@ -4,9 +4,9 @@ use mathlib.Core.Path.{subst}
 use lib.ListN.{length}
 use borrow.Author.Needs.{needs}
 use Rattle.io.proofs.Counting.{front}
-use Rattle.replay_io.specs.declared.Input.{Input}
-use Rattle.replay_io.specs.Views.{Last}
-use Rattle.replay_io.proofs.Laws.{last-fits}
+use Rattle.reading.specs.declared.Input.{Input}
+use Rattle.reading.specs.Views.{Last}
+use Rattle.reading.proofs.Laws.{last-fits}
 use Rattle.replay_io.proofs.replay_from.Statement.{statement}
 use Rattle.replay_io.proofs.replay_from.Tie as tie
 

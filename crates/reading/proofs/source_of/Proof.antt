@@ -1,9 +1,9 @@
--- `replay_io::source_of` meets its contract.
+-- `reading::source_of` meets its contract.
 -- Assumes nothing.
-use Rattle.replay_io.specs.Views.{sourceOf}
-use Rattle.replay_io.proofs.Laws.{is-input, is-wrong}
-use Rattle.replay_io.proofs.source_of.Statement.{statement}
-use Rattle.replay_io.proofs.source_of.Tie as tie
+use Rattle.reading.specs.Views.{sourceOf}
+use Rattle.reading.proofs.Laws.{is-input, is-wrong}
+use Rattle.reading.proofs.source_of.Statement.{statement}
+use Rattle.reading.proofs.source_of.Tie as tie
 
 returns : tie.Need-returns
 returns c = is-input _ (c .if1 .taken)

@@ -5,27 +5,24 @@ use native.Mathlib.Omega.{arith}
 use native.Mathlib.Nat.{min-eq-left}
 use mathlib.Core.Path.{_≡_, refl, sym, ap, _∙_, subst}
 use mathlib.Core.Bool.{Bool, true, false, true≢false}
-use mathlib.Core.List.{List, _++_}
+use mathlib.Core.List.{List}
 use lib.Dec.{ltb, eqb}
 use lib.IntN.{ℤ, pos, negsuc}
 use lib.Signed.{ltZ}
-use lib.Dec.{leb}
-use lib.ListN.{length, take, drop, length-append}
-use lib.Seq.{take-at}
-use borrow.Author.Tests.{ltb-true, ltb-false, lt-ltb, le-ltb, eq-eqb, ne-eqb, le-leb, eqb-false}
+use lib.ListN.{length}
+use borrow.Author.Tests.{ltb-true, ltb-false, lt-ltb, le-ltb, eq-eqb, ne-eqb, eqb-false}
 use borrow.Rule.Slice.PartMut.{midOf, putMid, same-len-mid, mid-len}
 use Rattle.lists.specs.Lists.{choose}
-use Rattle.io.specs.Counts.{Counts, clamped}
-use Rattle.io.proofs.Counting.{counts}
+use Rattle.io.specs.Counts.{clamped}
 use Rattle.libc.specs.Io.{Moved}
-use Rattle.replay_io.specs.declared.Gave.{Gave}
-use Rattle.replay_io.specs.declared.Gave.the-variants.{Failed, Ended, More}
-use Rattle.replay_io.specs.declared.Input.{Input}
-use Rattle.replay_io.specs.declared.Input.the-variants.{Broken, Whole}
-use Rattle.replay_io.specs.declared.Next.{Next}
-use Rattle.replay_io.specs.declared.Next.the-variants.{From, Over}
-use Rattle.replay_io.specs.declared.Source.the-variants as source
-use Rattle.replay_io.specs.Views.{gaveOf, Within, nextOf, Last, sourceOf}
+use Rattle.reading.specs.declared.Gave.{Gave}
+use Rattle.reading.specs.declared.Gave.the-variants.{Failed, Ended, More}
+use Rattle.reading.specs.declared.Input.{Input}
+use Rattle.reading.specs.declared.Input.the-variants.{Broken, Whole}
+use Rattle.reading.specs.declared.Next.{Next}
+use Rattle.reading.specs.declared.Next.the-variants.{From, Over}
+use Rattle.reading.specs.declared.Source.the-variants as source
+use Rattle.reading.specs.Views.{gaveOf, Within, nextOf, Last, sourceOf}
 
 -- ---- what the answer of a read means
 pub is-failed : (z : ℤ) → ltZ z (pos 0) ≡ true → Failed ≡ gaveOf z
@@ -96,14 +93,6 @@ last-fits room size l = by-case (l .gave) (l .at) (l .within) (l .over)
         go : (b : Bool) → ltb (at + n) room ≡ b → size ≤ room
         go true t = let f : From (at + n) ≡ Over (Whole size) = (sym (rw t)) ∙ e in let z : _≡_ {A = ℕ} 0 1 = cc in absurd (omega arith)
         go false t = let f : Over (Whole (at + n)) ≡ Over (Whole size) = (sym (rw t)) ∙ e in let i : at + n ≡ size = cc in omega arith
-
--- ---- the output, at the start of a buffer in which it fits
-pub put-all : (l out left : List ℕ) (r : ℕ) → length l ≤ length out → r ≡ length l → left ≡ choose (leb r (length out)) (l ++ drop r out) out → Counts r left × (take r left ≡ l)
-unfolding choose
-put-all l out left r h e b =
-    let f : left ≡ l ++ drop r out = b ∙ rw (le-leb r (length out) (omega arith)) in
-    let n = ap length f ∙ length-append l (drop r out) in
-    (counts _ _ (omega arith), ap (take r) f ∙ take-at l (drop r out) r (sym e))
 
 -- ---- the arguments
 pub is-input : (n : ℕ) → n < 2 → source.Input ≡ sourceOf n
