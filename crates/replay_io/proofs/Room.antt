@@ -17,7 +17,8 @@ use Rattle.layout.specs.Read.{Reading, read, badAt, Reader, placed, one, onward
 use Rattle.layout.proofs.Laws.{record-fits}
 use Rattle.types.specs.declared.Action.{Action}
 use Rattle.rules.specs.Outcome.{base}
-use Rattle.rules.specs.Script.{Version, version1, Item, end, act, Header, headerForm, ruleCountForm, ruleForm, envelopeCountForm, envelopeForm, actionForm, Script, tableFrom, envelopesFrom, closed, afterItem, actionsWithin, actionsFrom, scriptFrom, readScript}
+use Rattle.rules.specs.Script.{Version, version1, Item, end, act, Script, headerForm, ruleCountForm, ruleForm, envelopeCountForm, envelopeForm}
+use Rattle.rules.specs.Script.{actionForm, tableFrom, envelopesFrom, closed, afterItem, actionsWithin, actionsFrom, scriptFrom, readScript}
 use Rattle.rules.specs.Program.{badWord, line, output}
 use Rattle.script.specs.declared.Layout.{Layout}
 use Rattle.script.specs.declared.Layout.the-variants as layout
@@ -63,30 +64,38 @@ stays-repeat zero f s = λ xs p. refl
 stays-repeat (suc n) f s =
     stays-onward f (λ a ys q. onward (repeat n f ys q) (joining a)) s (λ a. stays-onward (repeat n f) (joining a) (stays-repeat n f s) (stays-joining a))
 
+-- so many records of a form as a count says
+stays-counted : {A : Type 0} (f : Form ℕ) (g : Form A) → Stays (λ xs p. onward (one f xs p) (λ c. repeat c (one g)))
+stays-counted f g = stays-onward (one f) (λ c. repeat c (one g)) (stays-one f) (λ c. stays-repeat c (one g) (stays-one g))
+
 stays-table : Stays tableFrom
 unfolding tableFrom
-stays-table = stays-onward (one ruleCountForm) (λ c. repeat c (one ruleForm)) (stays-one ruleCountForm) (λ c. stays-repeat c (one ruleForm) (stays-one ruleForm))
+stays-table = stays-counted ruleCountForm ruleForm
+
+stays-closed : Stays closed
+unfolding closed
+stays-closed [] p = refl
+stays-closed (x ∷ xs) p = omega arith
+
+stays-item : (i : Item) (more : Reader (List Action)) → Stays more → Stays (afterItem i more)
+unfolding afterItem
+stays-item end more s = stays-closed
+stays-item (act a) more s = stays-onward more (joining a) s (stays-joining a)
 
 module _ (v : Version) where
   stays-envelopes : Stays (envelopesFrom v)
   unfolding envelopesFrom
-  stays-envelopes =
-      stays-onward (one (envelopeCountForm v)) (λ c. repeat c (one (envelopeForm v))) (stays-one (envelopeCountForm v)) (λ c. stays-repeat c (one (envelopeForm v)) (stays-one (envelopeForm v)))
-
-  stays-closed : Stays closed
-  unfolding closed
-  stays-closed [] p = refl
-  stays-closed (x ∷ xs) p = omega arith
-
-  stays-item : (i : Item) (more : Reader (List Action)) → Stays more → Stays (afterItem i more)
-  unfolding afterItem
-  stays-item end more s = stays-closed
-  stays-item (act a) more s = stays-onward more (joining a) s (stays-joining a)
+  stays-envelopes = stays-counted (envelopeCountForm v) (envelopeForm v)
 
   stays-within : (k : ℕ) → Stays (actionsWithin k v)
   unfolding actionsWithin
   stays-within zero = λ xs p. omega arith
-  stays-within (suc k) = stays-onward (one (actionForm v)) (λ i. afterItem i (actionsWithin k v)) (stays-one (actionForm v)) (λ i. stays-item i (actionsWithin k v) (stays-within k))
+  stays-within (suc k) =
+      stays-onward
+      (one (actionForm v))
+      (λ i. afterItem i (actionsWithin k v))
+      (stays-one (actionForm v))
+      (λ i. stays-item i (actionsWithin k v) (stays-within k))
 
   stays-actions : Stays (actionsFrom v)
   unfolding actionsFrom
@@ -116,11 +125,19 @@ place-in s p h = go (readScript version1 s) (inside version1 s) h
     go (read a ys q) i e = let z : _≡_ {A = ℕ} 0 1 = cc in absurd (omega arith)
     go (badAt q) i e = let z : q ≡ p = cc in omega arith
 
-bad-fits : (s : List ℕ) (p : ℕ) → length s < 18446744073709551616 → layoutOf (readScript version1 s) ≡ layout.Bad p → length (output base version1 s) ≤ 1507488
+bad-size : (s : List ℕ) (p : ℕ) → layoutOf (readScript version1 s) ≡ layout.Bad p → length (line badWord (p ∷ [])) ≡ length (output base version1 s)
+bad-size s p h =
+    (told-bad s p {out = []} {left = choose (leb n 0) (line badWord (p ∷ []) ++ drop n []) []} {r = n} h (record { size = refl; bytes = refl })) .size
+  where
+    n : ℕ
+    n = length (line badWord (p ∷ []))
+
+bad-fits
+    : (s : List ℕ) (p : ℕ) → length s < 18446744073709551616 → layoutOf (readScript version1 s) ≡ layout.Bad p
+    → length (output base version1 s) ≤ 1507488
 bad-fits s p k h =
-    let t : Told (output base version1 s) [] (length (line badWord (p ∷ []))) (choose (leb (length (line badWord (p ∷ []))) 0) _ []) = told-bad s p h (record { size = refl; bytes = refl }) in
-    let l : length (line badWord (p ∷ [])) ≤ 80 = length-line badWord (p ∷ []) (omega (arith, place-in s p h), tt) (omega arith) in
-    omega (arith, t .size, l)
+    let l = length-line badWord (p ∷ []) (omega (arith, place-in s p h), tt) (omega arith) in
+    omega (arith, bad-size s p h, l)
 
 pub output-fits : (s : List ℕ) → length s < 18446744073709551616 → length (output base version1 s) ≤ 1507488
 output-fits s k = go (layoutOf (readScript version1 s)) refl
@@ -130,7 +147,9 @@ output-fits s k = go (layoutOf (readScript version1 s)) refl
     go (layout.Bad p) h = bad-fits s p k h
 
 -- ---- the output, at the start of a buffer in which it fits
-pub put-all : (l out left : List ℕ) (r : ℕ) → length l ≤ length out → r ≡ length l → left ≡ choose (leb r (length out)) (l ++ drop r out) out → Counts r left × (take r left ≡ l)
+pub put-all
+    : (l out left : List ℕ) (r : ℕ) → length l ≤ length out → r ≡ length l → left ≡ choose (leb r (length out)) (l ++ drop r out) out
+    → Counts r left × (take r left ≡ l)
 unfolding choose
 put-all l out left r h e b =
     let f : left ≡ l ++ drop r out = b ∙ rw (le-leb r (length out) (omega arith)) in

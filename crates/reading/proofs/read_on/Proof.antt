@@ -53,8 +53,10 @@ returns c =
     let at = s .args .at in
     let h : SFits w64 (r .result) = record { sfits = r .ok } in
     let m = mid-len at (length xs) xs (omega arith) in
-    let n = same-len-mid at (length xs - at) xs (r .last .1 .0) (r .kept .1 .0) in
-    (take-put at (length xs - at) xs (r .last .1 .0) (s .pre), gave-within (r .result) _ at (length xs - at) _ (omega (arith, n, s .pre)) (rw m at (r .ensures)) (rw toZ-ofZ at (c .judged .ensures)))
+    let n = same-len-mid at (length xs - at) xs (r .last .1 .0) (r .kept .1 .0) in (
+      take-put at (length xs - at) xs (r .last .1 .0) (s .pre),
+      gave-within (r .result) _ at (length xs - at) _ (omega (arith, n, s .pre)) (rw m at (r .ensures)) (rw toZ-ofZ at (c .judged .ensures)),
+    )
 
 pub read-on-spec : {M : Type 1} → statement M
 read-on-spec =
