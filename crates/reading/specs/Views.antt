@@ -34,7 +34,7 @@ nextOf Failed at room = Over Broken
 nextOf Ended at room = Over (Whole at)
 nextOf (More n) at room = choose (ltb (at + n) room) (From (at + n)) (Over (Whole (at + n)))
 
--- An answer that follows from a read, of which there is none after it.
+-- The answer follows from a read after which there is none.
 pub record Last (input : Input) (room : ℕ) : Type 0 where
   pub gave : Gave
   pub at : ℕ
