@@ -1,4 +1,4 @@
--- What the contracts of the buffers cite.
+-- What the contracts of the output's buffer cite.
 -- Assumes nothing.
 use Prim.Native.Nat.{ℕ}
 use mathlib.Core.Path.{_≡_}

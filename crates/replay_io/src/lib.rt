@@ -1,11 +1,18 @@
 // Reads a script, has it replayed, and writes what comes out: all that the replay programs do, for more than one of them.
+use libc::STDERR_FILENO;
 use libc::STDIN_FILENO;
 use libc::STDOUT_FILENO;
 use playback::replay;
+use reading::Input;
+use reading::Source;
+use reading::read_all;
+use reading::source_of;
 ghost use mathlib.Core.Path.{_≡_};
-ghost use Prim.Native.Nat.{_≤_};
-ghost use lib.ListN.{length};
+ghost use lib.ListN.{length, take};
 ghost use Rattle.io.specs.Counts.{Counts};
+ghost use Rattle.rules.specs.Outcome.{base};
+ghost use Rattle.rules.specs.Script.{version1};
+ghost use Rattle.rules.specs.Program.{output};
 ghost use Rattle.replay_io.specs.Views.{Sized};
 
 // A script has at most 65,536 bytes. One byte more is read, since a longer script is refused by its length alone.
@@ -15,85 +22,57 @@ fn script_room() -> [u8; 65537]
     [0; 65537]
 }
 
-// As much as `playback::room_for` has for the longest script, 160 + 23 * 65,536, so that nothing is measured first.
+// As much as `playback::room_for` has for the longest script, 160 + 23 * 65,536, so that every output fits and nothing is measured first.
 fn output_room() -> [u8; 1507488]
     ensures { λ r. ⌜ Sized 1507488 r ⌝ }
 {
     [0; 1507488]
 }
 
-// Whether every read went well, and how many bytes came.
-struct Filled {
-    well: bool,
-    size: usize,
-}
-
-// One read, from the place `at` on.
-fn read_on(fd: i32, script: &mut [u8], at: usize) -> Filled
-    requires { ⌜ at ≤ length (now script) ⌝ }
-    ensures { λ r. ⌜ r .size ≤ length (now (script .exit)) ⌝ }
+// Has the script replayed: the output stands at the start of the buffer, and always fits.
+fn put_output(script: &[u8], room: &mut [u8]) -> usize
+    requires { ⌜ Sized 1507488 (now room) ⌝ }
+    ensures counts { λ r. ⌜ Counts r (now (room .exit)) ⌝ }
+    ensures bytes { λ r. ⌜ take r (now (room .exit)) ≡ output base version1 (now (script .entry)) ⌝ }
 {
-    let got = libc::read(fd, &mut script[at..]);
-    if got < 0 {
-        return Filled {
-            well: false,
-            size: at,
-        };
-    }
-    let n = io::count(got, &script[at..]);
-    Filled {
-        well: true,
-        size: at + n,
-    }
+    replay(script, room)
 }
 
-// Until the input ends, a read fails or the buffer is full.
-fn read_all(fd: i32, script: &mut [u8]) -> Filled
-    ensures { λ r. ⌜ Counts (r .size) (now (script .exit)) ⌝ }
+// Writes the output of the script. It asks for the script so that nothing else can be handed to it.
+fn write_output(script: &[u8], out: &[u8])
+    requires { ⌜ now out ≡ output base version1 (now script) ⌝ }
 {
-    let mut at = 0;
-    while at < script.len() {
-        let f = read_on(fd, script, at);
-        if !f.well {
-            return f;
-        }
-        if f.size <= at {
-            return f;
-        }
-        at = f.size;
-    }
-    Filled {
-        well: true,
-        size: at,
+    if !io::write_all(STDOUT_FILENO, out) {
+        os::fail(b"standard output");
     }
 }
 
-// The output always fits: of a script that can be read by the bound above, and `bad PLACE` is shorter. So nothing is left unsaid.
 fn write_replay(script: &[u8]) {
     let mut room = output_room();
-    let size = replay(script, &mut room);
-    if size <= 1507488 {
-        if !io::write_all(STDOUT_FILENO, &room[..size]) {
-            os::fail(b"standard output");
-        }
-    }
+    let size = put_output(script, &mut room);
+    write_output(script, &room[..size]);
 }
 
 // What cannot be read is said on standard error under its name, and nothing is written to standard output.
 fn replay_from(fd: i32, name: &[u8]) {
     let mut room = script_room();
-    let f = read_all(fd, &mut room);
-    if !f.well {
-        os::fail(name);
-        return;
+    let input = read_all(fd, &mut room);
+    match input {
+        Input::Broken => os::fail(name),
+        Input::Whole(size) => write_replay(&room[..size]),
     }
-    let size = f.size;
-    write_replay(&room[..size]);
 }
 
-// Replays the script on standard input.
-pub fn replay_input() {
-    replay_from(STDIN_FILENO, b"standard input");
+// Replays the script that the program's arguments ask for.
+pub fn replay_asked() {
+    let from = source_of(os::arg_count());
+    match from {
+        Source::Input => replay_from(STDIN_FILENO, b"standard input"),
+        Source::Argument => replay_argument(),
+        Source::Wrong => {
+            io::write_all(STDERR_FILENO, b"usage: replay [FILE]\n");
+        }
+    }
 }
 
 // Replays the script in the file that the first argument names.

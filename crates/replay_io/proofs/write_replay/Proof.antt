@@ -1,7 +1,5 @@
--- `replay_io::write_replay` is safe and ends. What is written is as long as the replay said, since that was tested against the buffer.
+-- `replay_io::write_replay` is safe and ends, and hands `write_output` what it asks for.
 -- Assumes nothing.
-use native.Mathlib.Omega.{arith}
-use Rattle.io.proofs.Counting.{front}
 use borrow.Author.Needs.{needs}
 use Rattle.replay_io.proofs.write_replay.Statement.{statement}
 use Rattle.replay_io.proofs.write_replay.Tie as tie
@@ -9,48 +7,32 @@ use Rattle.replay_io.proofs.write_replay.Tie as tie
 output-room-requires : tie.Need-output-room-requires
 output-room-requires c κs = search needs
 
-slice-aggregate-replay : tie.Need-slice-aggregate-replay
-slice-aggregate-replay c = search needs
+slice-aggregate-put-output : tie.Need-slice-aggregate-put-output
+slice-aggregate-put-output c = search needs
 
-replay-requires : tie.Need-replay-requires
-replay-requires c κs = search needs
+put-output-requires : tie.Need-put-output-requires
+put-output-requires c κs = search needs
 
 array-share-prefix-room : tie.Need-array-share-prefix-room
 array-share-prefix-room c = search needs
 
-slice-aggregate-write-all : tie.Need-slice-aggregate-write-all
-slice-aggregate-write-all c = front _ _ (omega arith)
+slice-aggregate-write-output : tie.Need-slice-aggregate-write-output
+slice-aggregate-write-output c = search needs
 
-write-all-requires : tie.Need-write-all-requires
-write-all-requires c κs = search needs
-
-slice-aggregate-fail : tie.Need-slice-aggregate-fail
-slice-aggregate-fail c = search needs
-
-fail-requires : tie.Need-fail-requires
-fail-requires c κs = search needs
+write-output-requires : tie.Need-write-output-requires
+write-output-requires c κs = c .before .before .put-output .ensures .1
 
 returns : tie.Need-returns
 returns c = search needs
-
-returns-2 : tie.Need-returns-2
-returns-2 c = search needs
-
-returns-3 : tie.Need-returns-3
-returns-3 c = search needs
 
 pub write-replay-spec : {M : Type 1} → statement M
 write-replay-spec =
     tie.close
     (tie.spec
     output-room-requires
-    slice-aggregate-replay
-    replay-requires
+    slice-aggregate-put-output
+    put-output-requires
     array-share-prefix-room
-    slice-aggregate-write-all
-    write-all-requires
-    slice-aggregate-fail
-    fail-requires
-    returns
-    returns-2
-    returns-3)
+    slice-aggregate-write-output
+    write-output-requires
+    returns)
