@@ -17,9 +17,9 @@ use Rattle.layout.specs.Read.{Reading, read, badAt, Reader, placed, one, onward
 use Rattle.layout.proofs.Laws.{record-fits}
 use Rattle.types.specs.declared.Action.{Action}
 use Rattle.rules.specs.Outcome.{base}
-use Rattle.rules.specs.Script.{Version, version1, Item, end, act, Script, headerForm, ruleCountForm, ruleForm, envelopeCountForm, envelopeForm}
+use Rattle.rules.specs.Script.{Version, version1, Item, end, item, Script, headerForm, ruleCountForm, ruleForm, envelopeCountForm, envelopeForm}
 use Rattle.rules.specs.Script.{actionForm, tableFrom, envelopesFrom, closed, afterItem, actionsWithin, actionsFrom, scriptFrom, readScript}
-use Rattle.rules.specs.Program.{badWord, line, output}
+use Rattle.rules.specs.Program.{badWord, line, replay}
 use Rattle.script.specs.declared.Layout.{Layout}
 use Rattle.script.specs.declared.Layout.the-variants as layout
 use Rattle.script.specs.Views.{layoutOf}
@@ -80,7 +80,7 @@ stays-closed (x ∷ xs) p = omega arith
 stays-item : (i : Item) (more : Reader (List Action)) → Stays more → Stays (afterItem i more)
 unfolding afterItem
 stays-item end more s = stays-closed
-stays-item (act a) more s = stays-onward more (joining a) s (stays-joining a)
+stays-item (item a) more s = stays-onward more (joining a) s (stays-joining a)
 
 module _ (v : Version) where
   stays-envelopes : Stays (envelopesFrom v)
@@ -125,7 +125,7 @@ place-in s p h = go (readScript version1 s) (inside version1 s) h
     go (read a ys q) i e = let z : _≡_ {A = ℕ} 0 1 = cc in absurd (omega arith)
     go (badAt q) i e = let z : q ≡ p = cc in omega arith
 
-bad-size : (s : List ℕ) (p : ℕ) → layoutOf (readScript version1 s) ≡ layout.Bad p → length (line badWord (p ∷ [])) ≡ length (output base version1 s)
+bad-size : (s : List ℕ) (p : ℕ) → layoutOf (readScript version1 s) ≡ layout.Bad p → length (line badWord (p ∷ [])) ≡ length (replay base version1 s)
 bad-size s p h =
     (told-bad s p {out = []} {left = choose (leb n 0) (line badWord (p ∷ []) ++ drop n []) []} {r = n} h (record { size = refl; bytes = refl })) .size
   where
@@ -134,15 +134,15 @@ bad-size s p h =
 
 bad-fits
     : (s : List ℕ) (p : ℕ) → length s < 18446744073709551616 → layoutOf (readScript version1 s) ≡ layout.Bad p
-    → length (output base version1 s) ≤ 1507488
+    → length (replay base version1 s) ≤ 1507488
 bad-fits s p k h =
     let l = length-line badWord (p ∷ []) (omega (arith, place-in s p h), tt) (omega arith) in
     omega (arith, bad-size s p h, l)
 
-pub output-fits : (s : List ℕ) → length s < 18446744073709551616 → length (output base version1 s) ≤ 1507488
+pub output-fits : (s : List ℕ) → length s < 18446744073709551616 → length (replay base version1 s) ≤ 1507488
 output-fits s k = go (layoutOf (readScript version1 s)) refl
   where
-    go : (l : Layout) → layoutOf (readScript version1 s) ≡ l → length (output base version1 s) ≤ 1507488
+    go : (l : Layout) → layoutOf (readScript version1 s) ≡ l → length (replay base version1 s) ≤ 1507488
     go layout.Good h = let n = good-short s h in omega (arith, n, good-longest s (parts-of version1 s h) n)
     go (layout.Bad p) h = bad-fits s p k h
 

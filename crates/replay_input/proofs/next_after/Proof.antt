@@ -1,4 +1,4 @@
--- `reading::next_after` meets its contract. Sums fit since what was read lies in the buffer.
+-- `replay_input::next_after` meets its contract. Sums fit since what was read lies in the buffer.
 -- Assumes nothing.
 use Prim.Native.Nat.{ℕ, _+_, _≤_, _<_}
 use native.Mathlib.Omega.{arith}
@@ -6,11 +6,11 @@ use mathlib.Core.Path.{_≡_, subst}
 use borrow.Author.Needs.{needs}
 use borrow.Author.Tests.{lt-ltb, le-ltb}
 use Rattle.lists.specs.Lists.{choose}
-use Rattle.reading.specs.declared.Gave.{Gave}
-use Rattle.reading.specs.declared.Gave.the-variants.{More}
-use Rattle.reading.specs.Views.{Within, nextOf}
-use Rattle.reading.proofs.next_after.Statement.{statement}
-use Rattle.reading.proofs.next_after.Tie as tie
+use Rattle.replay_input.specs.declared.Gave.{Gave}
+use Rattle.replay_input.specs.declared.Gave.the-variants.{More}
+use Rattle.replay_input.specs.Views.{Within, nextOf}
+use Rattle.replay_input.proofs.next_after.Statement.{statement}
+use Rattle.replay_input.proofs.next_after.Tie as tie
 
 more : (g : Gave) (at room n : ℕ) → Within g at room → g ≡ More n → at + n ≤ room
 more g at room n w e = (subst (λ (x : Gave). Within x at room) e w) .1

@@ -1,9 +1,9 @@
--- `reading::source_of` meets its contract.
+-- `replay_input::source_of` meets its contract.
 -- Assumes nothing.
-use Rattle.reading.specs.Views.{sourceOf}
-use Rattle.reading.proofs.Laws.{is-input, is-wrong}
-use Rattle.reading.proofs.source_of.Statement.{statement}
-use Rattle.reading.proofs.source_of.Tie as tie
+use Rattle.replay_input.specs.Views.{sourceOf}
+use Rattle.replay_input.proofs.Laws.{is-input, is-wrong}
+use Rattle.replay_input.proofs.source_of.Statement.{statement}
+use Rattle.replay_input.proofs.source_of.Tie as tie
 
 returns : tie.Need-returns
 returns c = is-input _ (c .if1 .taken)

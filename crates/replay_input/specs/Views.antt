@@ -5,14 +5,14 @@ use mathlib.Core.Path.{_≡_}
 use lib.Dec.{ltb, eqb}
 use lib.IntN.{ℤ, pos, negsuc}
 use Rattle.lists.specs.Lists.{choose}
-use Rattle.reading.specs.declared.Gave.{Gave}
-use Rattle.reading.specs.declared.Gave.the-variants.{Failed, Ended, More}
-use Rattle.reading.specs.declared.Input.{Input}
-use Rattle.reading.specs.declared.Input.the-variants.{Broken, Whole}
-use Rattle.reading.specs.declared.Next.{Next}
-use Rattle.reading.specs.declared.Next.the-variants.{From, Over}
-use Rattle.reading.specs.declared.Source.{Source}
-use Rattle.reading.specs.declared.Source.the-variants as source
+use Rattle.replay_input.specs.declared.Gave.{Gave}
+use Rattle.replay_input.specs.declared.Gave.the-variants.{Failed, Ended, More}
+use Rattle.replay_input.specs.declared.Input.{Input}
+use Rattle.replay_input.specs.declared.Input.the-variants.{Broken, Whole}
+use Rattle.replay_input.specs.declared.Next.{Next}
+use Rattle.replay_input.specs.declared.Next.the-variants.{From, Over}
+use Rattle.replay_input.specs.declared.Source.{Source}
+use Rattle.replay_input.specs.declared.Source.the-variants as source
 
 -- ---- one read
 -- A read that fails answers a negative number; one that gives nothing is at the end of the input.

@@ -4,7 +4,7 @@ ghost use mathlib.Core.Path.{_≡_};
 ghost use Prim.Native.Nat.{_≤_};
 ghost use lib.ListN.{length, take};
 ghost use Rattle.libc.specs.Io.{Moved};
-ghost use Rattle.reading.specs.Views.{gaveOf, Within, nextOf, Last, sourceOf};
+ghost use Rattle.replay_input.specs.Views.{gaveOf, Within, nextOf, Last, sourceOf};
 
 // What one read came to.
 enum Gave {

@@ -1,9 +1,9 @@
--- `reading::judged` meets its contract.
+-- `replay_input::judged` meets its contract.
 -- Assumes nothing.
 use borrow.Author.Needs.{needs}
-use Rattle.reading.proofs.Laws.{is-failed, is-ended, is-more}
-use Rattle.reading.proofs.judged.Statement.{statement}
-use Rattle.reading.proofs.judged.Tie as tie
+use Rattle.replay_input.proofs.Laws.{is-failed, is-ended, is-more}
+use Rattle.replay_input.proofs.judged.Statement.{statement}
+use Rattle.replay_input.proofs.judged.Tie as tie
 use mir.ValLaws.{toZ-ofZ}
 
 returns : tie.Need-returns

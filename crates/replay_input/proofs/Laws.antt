@@ -15,14 +15,14 @@ use borrow.Rule.Slice.PartMut.{midOf, putMid, same-len-mid, mid-len}
 use Rattle.lists.specs.Lists.{choose}
 use Rattle.io.specs.Counts.{clamped}
 use Rattle.libc.specs.Io.{Moved}
-use Rattle.reading.specs.declared.Gave.{Gave}
-use Rattle.reading.specs.declared.Gave.the-variants.{Failed, Ended, More}
-use Rattle.reading.specs.declared.Input.{Input}
-use Rattle.reading.specs.declared.Input.the-variants.{Broken, Whole}
-use Rattle.reading.specs.declared.Next.{Next}
-use Rattle.reading.specs.declared.Next.the-variants.{From, Over}
-use Rattle.reading.specs.declared.Source.the-variants as source
-use Rattle.reading.specs.Views.{gaveOf, Within, nextOf, Last, sourceOf}
+use Rattle.replay_input.specs.declared.Gave.{Gave}
+use Rattle.replay_input.specs.declared.Gave.the-variants.{Failed, Ended, More}
+use Rattle.replay_input.specs.declared.Input.{Input}
+use Rattle.replay_input.specs.declared.Input.the-variants.{Broken, Whole}
+use Rattle.replay_input.specs.declared.Next.{Next}
+use Rattle.replay_input.specs.declared.Next.the-variants.{From, Over}
+use Rattle.replay_input.specs.declared.Source.the-variants as source
+use Rattle.replay_input.specs.Views.{gaveOf, Within, nextOf, Last, sourceOf}
 
 -- ---- what the answer of a read means
 pub is-failed : (z : ℤ) → ltZ z (pos 0) ≡ true → Failed ≡ gaveOf z

@@ -1,4 +1,4 @@
--- `reading::read_all` meets its contract. The invariant: the place is within the buffer. The measure is what is left of it,
+-- `replay_input::read_all` meets its contract. The invariant: the place is within the buffer. The measure is what is left of it,
 -- since another read follows only one that gave something.
 -- Assumes nothing.
 use Prim.Native.Nat.{_≤_, _-_}
@@ -6,9 +6,9 @@ use native.Mathlib.Omega.{arith}
 use mathlib.Core.Path.{_≡_, sym, _∙_}
 use lib.ListN.{length}
 use borrow.Author.Needs.{needs}
-use Rattle.reading.proofs.Laws.{goes-on}
-use Rattle.reading.proofs.read_all.Statement.{statement}
-use Rattle.reading.proofs.read_all.Tie as tie
+use Rattle.replay_input.proofs.Laws.{goes-on}
+use Rattle.replay_input.proofs.read_all.Statement.{statement}
+use Rattle.replay_input.proofs.read_all.Tie as tie
 
 abbrev Inv-loop : tie.InvT-loop
 Inv-loop fd script₀ at₀ script at = (at ≤ length script) × (length script₀ ≡ length script)

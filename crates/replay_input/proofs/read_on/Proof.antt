@@ -1,4 +1,4 @@
--- `reading::read_on` meets its contract: the part that was lent begins at the place, so what stands before it stays.
+-- `replay_input::read_on` meets its contract: the part that was lent begins at the place, so what stands before it stays.
 -- Assumes nothing.
 use Prim.Native.Nat.{_-_}
 use native.Mathlib.Omega.{arith}
@@ -10,9 +10,9 @@ use mir.Syntax.{w64}
 use mir.Val.{SFits}
 use mir.ValLaws.{toZ-ofZ}
 use Rattle.libc.specs.Io.{Moved}
-use Rattle.reading.proofs.Laws.{part-size, gave-within}
-use Rattle.reading.proofs.read_on.Statement.{statement}
-use Rattle.reading.proofs.read_on.Tie as tie
+use Rattle.replay_input.proofs.Laws.{part-size, gave-within}
+use Rattle.replay_input.proofs.read_on.Statement.{statement}
+use Rattle.replay_input.proofs.read_on.Tie as tie
 
 sub-read : tie.Need-sub-read
 sub-read c = search needs
