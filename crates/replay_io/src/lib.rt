@@ -1,4 +1,4 @@
-// Reads a script, has it replayed, and writes what comes out: all that the replay programs do, for more than one of them.
+// Reads a script, has it replayed, and writes what comes out: all that the program does.
 use libc::STDERR_FILENO;
 use libc::STDIN_FILENO;
 use libc::STDOUT_FILENO;
@@ -76,7 +76,7 @@ pub fn replay_asked() {
 }
 
 // Replays the script in the file that the first argument names.
-pub fn replay_argument() {
+fn replay_argument() {
     let mut path = io::buffer();
     let length = os::arg(1, &mut path);
     if os::errno() != 0 {
