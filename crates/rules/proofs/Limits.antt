@@ -1,5 +1,5 @@
 -- Each limit, by computation: the last value that is accepted, and the first that is not. Each reason for which a table is unsound,
--- or a system not well formed, alone in what is otherwise fine. Decimals of more than one digit.
+-- or a system not well formed, alone in what is otherwise fine. Places of a rule, decimals, the line `bad 0`.
 -- Assumes nothing.
 use Prim.Native.Nat.{ℕ, zero, suc}
 use mathlib.Core.Path.{_≡_, refl}
@@ -19,12 +19,13 @@ use Rattle.types.specs.declared.Storage.the-variants as storage
 use Rattle.rules.specs.Outcome.{done, refused, base}
 use Rattle.rules.specs.Timers.{network, setTimer}
 use Rattle.rules.specs.Network.{Net, send}
-use Rattle.rules.specs.Inner.{slotsOf}
+use Rattle.rules.specs.Inner.{zeroSlot, slotsOf}
 use Rattle.rules.specs.Link.{Durable, fresh, Send, Save, Sent, output}
 use Rattle.rules.specs.System.{Actor, Sys, withStorage, withMark}
 use Rattle.rules.specs.WellFormed.{sound, wellFormed}
 use Rattle.rules.specs.Start.{startable}
-use Rattle.rules.specs.Program.{decimal}
+use Rattle.rules.specs.Script.{version1}
+use Rattle.rules.specs.Program.{decimal, replayed, replay}
 use Rattle.rules.specs.Sheet.{id, msg, ack, env, pending, ruleBy, ruleOf, net, live, sys, two, lastTakenIs, a, b}
 use Rattle.rules.proofs.Opened.{opened}
 
@@ -50,6 +51,10 @@ send7 = inner.Send (id 1) (record { 0 = 7 }) ∷ []
 -- A message rule with these commands.
 abbrev doing : List RuleCommand → List Rule
 doing cs = ruleOf 2 0 0 9 0 cs ∷ []
+
+-- One with this command in an unused place.
+abbrev unused : RuleCommand → List Rule
+unused c = record { event = 2; state = 0; low = 0; high = 9; touched = true; next = 0; commands = slotsOf (c ∷ []); used = 0 } ∷ []
 
 abbrev toSource : ℕ → RuleCommand
 toSource d = rule.Send true (id d) false (record { 0 = 7 })
@@ -102,7 +107,15 @@ pub record Limits : Type 0 where
   pub source-and-destination : sound (doing (toSource 1 ∷ [])) ≡ false
   pub echo-and-payload : sound (doing (rule.Send false (id 1) true (record { 0 = 7 }) ∷ [])) ≡ false
   pub echo-and-value : sound (doing (rule.Save true 7 ∷ [])) ≡ false
-  pub unused-not-zero : sound (record { event = 2; state = 0; low = 0; high = 9; touched = true; next = 0; commands = slotsOf (rule.SetTimer 1 ∷ []); used = 0 } ∷ []) ≡ false
+  pub echo-payload : sound (doing (rule.Send false (id 1) true (record { 0 = 0 }) ∷ [])) ≡ true
+  pub echo-value : sound (doing (rule.Save true 0 ∷ [])) ≡ true
+  pub own-value : sound (doing (rule.Save false 7 ∷ [])) ≡ true
+  pub unused-set : sound (unused (rule.SetTimer 1)) ≡ false
+  pub unused-cancel : sound (unused (rule.CancelTimer 0)) ≡ false
+  pub unused-send : sound (unused (rule.Send false (id 0) false (record { 0 = 0 }))) ≡ false
+  pub unused-save : sound (unused (rule.Save false 0)) ≡ false
+  pub unused-zero : sound (unused (rule.SetTimer 0)) ≡ true
+  pub four-places : slotsOf [] ≡ zeroSlot ∷ zeroSlot ∷ zeroSlot ∷ zeroSlot ∷ []
   -- a start: actors 1 and 0, 8 and 9, kinds 2 and 3, sources up to the actor count
   pub actor-1 : startable 0 ([] ∷ []) [] ≡ true
   pub actor-0 : startable 0 [] [] ≡ false
@@ -140,12 +153,14 @@ pub record Limits : Type 0 where
   pub taken-from-none : wellFormed base (alone (net Ordered [] last.Nothing) (withStorage (lastTakenIs 0) (inState 0))) ≡ false
   pub set-timer-31 : setTimer 31 [] ≡ 31 ∷ []
   pub set-timer-32 : setTimer 32 [] ≡ []
-  -- decimals
+  -- decimals, and the line of a script that cannot be read
+  pub nine : decimal 9 ≡ 57 ∷ []
   pub ten : decimal 10 ≡ 49 ∷ 48 ∷ []
   pub many : decimal 65307 ≡ 54 ∷ 53 ∷ 51 ∷ 48 ∷ 55 ∷ []
+  pub bad-0 : replay base version1 [] ≡ 98 ∷ 97 ∷ 100 ∷ 32 ∷ 48 ∷ 10 ∷ []
 
 pub limits : Limits
-unfolding opened waits
+unfolding opened waits replayed replay
 limits = record {
   entry-128 = refl;
   entry-129 = refl;
@@ -178,7 +193,15 @@ limits = record {
   source-and-destination = refl;
   echo-and-payload = refl;
   echo-and-value = refl;
-  unused-not-zero = refl;
+  echo-payload = refl;
+  echo-value = refl;
+  own-value = refl;
+  unused-set = refl;
+  unused-cancel = refl;
+  unused-send = refl;
+  unused-save = refl;
+  unused-zero = refl;
+  four-places = refl;
   actor-1 = refl;
   actor-0 = refl;
   actor-8 = refl;
@@ -213,6 +236,8 @@ limits = record {
   taken-from-none = refl;
   set-timer-31 = refl;
   set-timer-32 = refl;
+  nine = refl;
   ten = refl;
   many = refl;
+  bad-0 = refl;
 }
