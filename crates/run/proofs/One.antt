@@ -9,7 +9,8 @@ use Rattle.system.specs.declared.System.{System}
 use Rattle.run.specs.Views.{Runs, Writes}
 
 module _ (script : List ℕ) (from : ℕ) (s : System) (out : List ℕ) (place : ℕ) (write : Bool) (asked : Runs script from s out place write) where
-  pub one-run : (e f : ℕ) (left rest : List ℕ) → Writes script from s out place write e left → Writes script from s out place write f rest → (e ≡ f) × (left ≡ rest)
+  pub one-run : (e f : ℕ) (left rest : List ℕ) → Writes script from s out place write e left → Writes script from s out place write f rest
+      → (e ≡ f) × (left ≡ rest)
   one-run e f left rest h k =
       let p = h (asked .actions) (asked .left) (asked .end) (asked .reads) in
       let q = k (asked .actions) (asked .left) (asked .end) (asked .reads) in
