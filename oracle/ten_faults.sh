@@ -7,7 +7,7 @@ root=$(cd "$(dirname "$0")/.." && pwd)
 copy=$root/target/faults
 kit=$(dirname "$(dirname "$(rt doc)")")
 own=$kit/on/$(uname -m)
-program=$copy/crates/replay_list
+program=$copy/crates/test_fixed_list
 
 faults="link/ignored_marked_taken durable/next_not_saved link/untouched_by_state link/ack_left_out link/equal_number_handed
 durable/removed_by_destination steps/timer_not_cancelled steps/crash_keeps_timers act/absent_before_ignored network/count_not_raised"

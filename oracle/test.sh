@@ -29,5 +29,5 @@ for seed in $(seq 0 47); do
 done
 $oracle compare $oracle 0 48
 if $oracle compare cat 0 3 > $trial/cat 2>&1; then echo "a difference was not told" >&2; exit 1; fi
-$oracle list 0 1100 sheet/row*.txt sheet/ack.txt sheet/overtaken.txt sheet/storage.txt sheet/untouched.txt | cmp - ../crates/replay_list/data/list.bin
+$oracle list 0 1100 sheet/row*.txt sheet/ack.txt sheet/overtaken.txt sheet/storage.txt sheet/untouched.txt | cmp - ../crates/test_fixed_list/data/list.bin
 echo "the oracle is as expected"

@@ -8,25 +8,25 @@ use mathlib.Core.List.{List}
 use lib.Dec.{leb, ltb}
 use borrow.Author.Tests.{le-leb, lt-leb}
 use Rattle.lists.specs.Lists.{choose}
-use Rattle.types.specs.declared.Answer.{Answer}
-use Rattle.types.specs.declared.Answer.the-variants.{Done, Ignored, OutOfRange}
+use Rattle.answers.specs.declared.Answer.{Answer}
+use Rattle.answers.specs.declared.Answer.the-variants.{Done, Ignored, OutOfRange}
 use Rattle.types.specs.declared.Action.{Action}
 use Rattle.types.specs.declared.Id.{Id}
 use Rattle.types.specs.declared.Rule.{Rule}
-use Rattle.types.specs.Answers.{answerOf}
+use Rattle.answers.specs.Answers.{answerOf}
 use Rattle.rules.specs.Outcome.{Outcome, done, refused, bind, guard}
 use Rattle.rules.specs.Timers.{network}
 use Rattle.rules.specs.Network.{Net}
-use Rattle.refusals.specs.declared.Refusal.{Refusal}
-use Rattle.refusals.specs.declared.Refusal.the-variants.{Nothing, Because}
-use Rattle.refusals.specs.Views.{firstOf}
-use Rattle.network.specs.declared.Network.{Network}
-use Rattle.network.specs.declared.Sent.{Sent}
-use Rattle.network.specs.Views.{NetReady, sentOf}
+use Rattle.answers.specs.declared.Refusal.{Refusal}
+use Rattle.answers.specs.declared.Refusal.the-variants.{Nothing, Because}
+use Rattle.answers.specs.Refusals.{firstOf}
+use Rattle.net_network.specs.declared.Network.{Network}
+use Rattle.net_network.specs.declared.Sent.{Sent}
+use Rattle.net_network.specs.Views.{NetReady, sentOf}
 use Rattle.parts.specs.Parts.{Part, netIn, actorIn, crashPart, mapped, target, seat}
 use Rattle.parts.proofs.Outcomes.{guarded, unguarded}
-use Rattle.actor.specs.declared.Actor.{Actor}
-use Rattle.actor.specs.Views.{actorAs, ActorLaid}
+use Rattle.sys_actor.specs.declared.Actor.{Actor}
+use Rattle.sys_actor.specs.Views.{actorAs, ActorLaid}
 use Rattle.steps.specs.declared.Touched.{Touched}
 use Rattle.steps.specs.Views.{partView, touchedOf}
 use Rattle.steps.proofs.Laws.{same-net, sent-touched}

@@ -3,13 +3,13 @@
 use Prim.Native.Nat.{ℕ, _≤_}
 use mathlib.Core.Path.{_≡_}
 use mathlib.Core.Bool.{true}
-use Rattle.network.specs.declared.Network.{Network}
-use Rattle.network.specs.Views.{NetReady}
-use Rattle.inner.specs.declared.Table.{Table}
-use Rattle.inner.specs.Views.{tableOk}
-use Rattle.durable.specs.Views.{durableLaid, storedLaid}
-use Rattle.actor.specs.declared.Actor.{Actor}
-use Rattle.actor.specs.Views.{ActorLaid}
+use Rattle.net_network.specs.declared.Network.{Network}
+use Rattle.net_network.specs.Views.{NetReady}
+use Rattle.link_inner.specs.declared.Table.{Table}
+use Rattle.link_inner.specs.Views.{tableOk}
+use Rattle.link_durable.specs.Views.{durableLaid, storedLaid}
+use Rattle.sys_actor.specs.declared.Actor.{Actor}
+use Rattle.sys_actor.specs.Views.{ActorLaid}
 
 pub record PartReady (count : ℕ) (n : Network) (a : Actor) (t : Table) : Type 0 where
   pub few : count ≤ 8

@@ -1,15 +1,15 @@
 // An action on the network and on the one actor that it touches, in the order of the answers: 2, Ignored for the destination,
 // then the action's own way. The step of a whole system and the run are both made of this.
-use actor::Actor;
-use actor::is_done;
-use inner::Table;
-use network::Network;
-use refusals::Refusal;
-use refusals::first_refusal;
-use refusals::refused_unless;
+use answers::Answer;
+use answers::Refusal;
+use answers::first_refusal;
+use answers::is_done;
+use answers::refused_unless;
+use link_inner::Table;
+use net_network::Network;
 use steps::Touched;
+use sys_actor::Actor;
 use types::Action;
-use types::Answer;
 use types::Envelope;
 use types::Id;
 ghost use mathlib.Core.Path.{_≡_};
@@ -17,7 +17,7 @@ ghost use mathlib.Core.Bool.{not, _&&_};
 ghost use lib.Dec.{ltb};
 ghost use Rattle.types.specs.declared.Action.the-variants as action;
 ghost use Rattle.rules.specs.Outcome.{base};
-ghost use Rattle.inner.specs.Views.{rulesOf};
+ghost use Rattle.link_inner.specs.Views.{rulesOf};
 ghost use Rattle.parts.specs.Parts.{target, seat, actPart};
 ghost use Rattle.steps.specs.Views.{partView, touchedOf};
 ghost use Rattle.act.specs.Views.{PartReady};
@@ -80,7 +80,7 @@ fn deliver(e: Envelope, count: usize, n: Network, a: Actor, t: Table) -> Touched
 {
     let src = e.src;
     let dst = e.dst;
-    let s = network::on_deliver(n, e);
+    let s = net_network::on_deliver(n, e);
     let found = s.answer;
     let source = refused_unless(known(count, src), Answer::OutOfRange);
     let destination = refused_unless(hears(count, dst, a), Answer::Ignored);
@@ -89,7 +89,7 @@ fn deliver(e: Envelope, count: usize, n: Network, a: Actor, t: Table) -> Touched
     let refusal = first_refusal(source, after_source);
     match refusal {
         Refusal::Because(answer) => refused(answer, n, a),
-        Refusal::Nothing => steps::deliver(e, s, n, a, t),
+        Refusal::Nothing => steps::hand_over(e, s, n, a, t),
     }
 }
 
@@ -102,7 +102,7 @@ fn drop(e: Envelope, count: usize, n: Network, a: Actor, t: Table) -> Touched
     if !known(count, src) {
         return refused(Answer::OutOfRange, n, a);
     }
-    let s = network::on_drop(n, e);
+    let s = net_network::on_drop(n, e);
     let answer = s.answer;
     let after = s.network;
     Touched {

@@ -20,13 +20,13 @@ use Rattle.rules.specs.Outcome.{base}
 use Rattle.rules.specs.Script.{Version, version1, Item, end, item, Script, headerForm, ruleCountForm, ruleForm, envelopeCountForm, envelopeForm}
 use Rattle.rules.specs.Script.{actionForm, tableFrom, envelopesFrom, closed, afterItem, actionsWithin, actionsFrom, scriptFrom, readScript}
 use Rattle.rules.specs.Program.{badWord, line, replay}
-use Rattle.script.specs.declared.Layout.{Layout}
-use Rattle.script.specs.declared.Layout.the-variants as layout
-use Rattle.script.specs.Views.{layoutOf}
+use Rattle.script_check.specs.declared.Layout.{Layout}
+use Rattle.script_check.specs.declared.Layout.the-variants as layout
+use Rattle.script_check.specs.Views.{layoutOf}
 use Rattle.script_parts.proofs.Whole.{parts-of}
-use Rattle.lines.proofs.Laws.{length-line}
-use Rattle.playback.specs.Views.{Told}
-use Rattle.playback.proofs.Laws.{good-short, good-longest, told-bad}
+use Rattle.replay_lines.proofs.Laws.{length-line}
+use Rattle.replay_script.specs.Views.{Told}
+use Rattle.replay_script.proofs.Laws.{good-short, good-longest, told-bad}
 
 -- ---- the place of a bad record lies in the script
 -- What is left of a reading ends where the script ends, at this place; a bad one's place is not beyond it.

@@ -2,11 +2,11 @@
 use libc::STDERR_FILENO;
 use libc::STDIN_FILENO;
 use libc::STDOUT_FILENO;
-use playback::replay;
 use replay_input::Input;
 use replay_input::Source;
 use replay_input::read_all;
 use replay_input::source_of;
+use replay_script::replay;
 ghost use mathlib.Core.Path.{_≡_};
 ghost use lib.ListN.{length, take};
 ghost use Rattle.io.specs.Counts.{Counts};
@@ -22,7 +22,7 @@ fn script_room() -> [u8; 65537]
     [0; 65537]
 }
 
-// As much as `playback::room_for` has for the longest script, 160 + 23 * 65,536, so that every output fits and nothing is measured first.
+// As much as `replay_script::room_for` has for the longest script, 160 + 23 * 65,536, so that every output fits and nothing is measured first.
 fn output_room() -> [u8; 1507488]
     ensures { λ r. ⌜ Sized 1507488 r ⌝ }
 {

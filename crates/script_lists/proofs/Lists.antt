@@ -10,8 +10,8 @@ use Rattle.types.specs.declared.Rule.{Rule}
 use Rattle.layout.specs.Read.{Reading, read, badAt, Reader, onward, joining, repeat}
 use Rattle.rules.specs.Inner.{slotsOf}
 use Rattle.rules.specs.Script.{tableFrom}
-use Rattle.records.specs.Views as records
-use Rattle.inner.specs.declared.Table.{Table}
+use Rattle.script_records.specs.Views as records
+use Rattle.link_inner.specs.declared.Table.{Table}
 use Rattle.system.specs.Views.{zeroRule, tableAs, zeroTable}
 use Rattle.script_parts.specs.declared.TableAt.{TableAt}
 use Rattle.script_parts.specs.Views.{tableAt}

@@ -1,6 +1,6 @@
 // The lists of a script by their places: the tables of all actors, and the starting envelopes. Each is read into an array, with the
 // place after it, or it is bad at a place.
-use inner::Table;
+use link_inner::Table;
 use script_parts::CountAt;
 use script_parts::EnvelopeAt;
 use system::zero_table;

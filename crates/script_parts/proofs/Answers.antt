@@ -14,17 +14,17 @@ use Rattle.layout.proofs.Laws.{record-fits}
 use Rattle.types.specs.declared.Envelope.{Envelope}
 use Rattle.types.specs.declared.Rule.{Rule}
 use Rattle.rules.specs.Script.{Header, ruleForm, Item, end, item}
-use Rattle.records.specs.Views.{headerRead, countRead, ruleRead, envelopeRead, actionRead, actionSize}
-use Rattle.records.proofs.Laws.{rule-sized}
-use Rattle.records.specs.declared.HeaderRead.{HeaderRead}
-use Rattle.records.specs.declared.HeaderRead.the-variants as header
-use Rattle.records.specs.declared.CountRead.{CountRead}
-use Rattle.records.specs.declared.CountRead.the-variants as count
-use Rattle.records.specs.declared.RuleRead.{RuleRead}
-use Rattle.records.specs.declared.EnvelopeRead.{EnvelopeRead}
-use Rattle.records.specs.declared.EnvelopeRead.the-variants as envelope
-use Rattle.records.specs.declared.ActionRead.{ActionRead}
-use Rattle.records.specs.declared.ActionRead.the-variants as action
+use Rattle.script_records.specs.Views.{headerRead, countRead, ruleRead, envelopeRead, actionRead, actionSize}
+use Rattle.script_records.proofs.Laws.{rule-sized}
+use Rattle.script_records.specs.declared.HeaderRead.{HeaderRead}
+use Rattle.script_records.specs.declared.HeaderRead.the-variants as header
+use Rattle.script_records.specs.declared.CountRead.{CountRead}
+use Rattle.script_records.specs.declared.CountRead.the-variants as count
+use Rattle.script_records.specs.declared.RuleRead.{RuleRead}
+use Rattle.script_records.specs.declared.EnvelopeRead.{EnvelopeRead}
+use Rattle.script_records.specs.declared.EnvelopeRead.the-variants as envelope
+use Rattle.script_records.specs.declared.ActionRead.{ActionRead}
+use Rattle.script_records.specs.declared.ActionRead.the-variants as action
 use Rattle.script_parts.specs.declared.HeaderAt.{HeaderAt}
 use Rattle.script_parts.specs.declared.HeaderAt.the-variants as headerAt
 use Rattle.script_parts.specs.declared.CountAt.{CountAt}

@@ -17,7 +17,7 @@ use Rattle.types.specs.declared.Envelope.{Envelope}
 use Rattle.types.specs.declared.Rule.{Rule}
 use Rattle.rules.specs.Script.{version1, ruleCountForm, ruleForm, envelopeCountForm}
 use Rattle.rules.specs.Script as script
-use Rattle.records.specs.declared.Header.{Header}
+use Rattle.script_records.specs.declared.Header.{Header}
 use Rattle.script_parts.specs.declared.HeaderAt.{HeaderAt}
 use Rattle.script_parts.specs.declared.HeaderAt.the-variants as header
 use Rattle.script_parts.specs.declared.CountAt.{CountAt}

@@ -10,9 +10,9 @@ use Rattle.layout.specs.Read.{Reading, read, badAt}
 use Rattle.types.specs.declared.Envelope.{Envelope}
 use Rattle.types.specs.declared.Rule.{Rule}
 use Rattle.rules.specs.Script.{Header, Item, end, item}
-use Rattle.records.specs.Views.{zeroRule}
-use Rattle.records.specs.Says.{said, readingSays}
-use Rattle.records.proofs.Says.{Both, both}
+use Rattle.script_records.specs.Views.{zeroRule}
+use Rattle.script_records.specs.Says.{said, readingSays}
+use Rattle.script_records.proofs.Says.{Both, both}
 use Rattle.script_parts.specs.declared.HeaderAt.{HeaderAt}
 use Rattle.script_parts.specs.declared.CountAt.{CountAt}
 use Rattle.script_parts.specs.declared.RuleAt.{RuleAt}

@@ -12,10 +12,10 @@ use Rattle.layout.specs.Form.{Form, Got, got, bad, recordOf}
 use Rattle.layout.specs.Read.{Reading, read, badAt, Reader, placed, one, onward, joining, repeat}
 use Rattle.types.specs.declared.Action.{Action}
 use Rattle.rules.specs.Script.{Version, Header, headerForm, ruleCountForm, ruleForm, envelopeCountForm, envelopeForm, Item, end, item, actionForm, Script, tableFrom, envelopesFrom, closed, afterItem, actionsWithin, actionsFrom, scriptFrom, readScript}
-use Rattle.records.proofs.Laws.{Sized}
-use Rattle.script.specs.declared.Layout.the-variants as layout
-use Rattle.script.specs.Views.{layoutOf}
-use Rattle.script.proofs.Due.{enough, action-sized, scriptEnd, afterEnvelopes, afterTables, afterHeader}
+use Rattle.script_records.proofs.Laws.{Sized}
+use Rattle.script_check.specs.declared.Layout.the-variants as layout
+use Rattle.script_check.specs.Views.{layoutOf}
+use Rattle.script_check.proofs.Due.{enough, action-sized, scriptEnd, afterEnvelopes, afterTables, afterHeader}
 pub use Rattle.script_parts.proofs.Readings.{Kept, kept-one}
 
 -- ---- first one reading, then another

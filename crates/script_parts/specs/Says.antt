@@ -8,7 +8,7 @@ use Rattle.types.specs.declared.Envelope.{Envelope}
 use Rattle.types.specs.declared.Rule.{Rule}
 use Rattle.rules.specs.Script.{Item, end, item}
 use Rattle.rules.specs.Script as script
-use Rattle.records.specs.Says.{Said, said}
+use Rattle.script_records.specs.Says.{Said, said}
 use Rattle.script_parts.specs.declared.HeaderAt.{HeaderAt}
 use Rattle.script_parts.specs.declared.HeaderAt.the-variants as header
 use Rattle.script_parts.specs.declared.CountAt.{CountAt}

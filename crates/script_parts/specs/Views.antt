@@ -10,7 +10,7 @@ use Rattle.types.specs.declared.Rule.{Rule}
 use Rattle.layout.specs.Read.{Reading, read, badAt}
 use Rattle.rules.specs.Script.{Item, end, item}
 use Rattle.rules.specs.Script as script
-use Rattle.records.specs.Views.{zeroRule}
+use Rattle.script_records.specs.Views.{zeroRule}
 use Rattle.script_parts.specs.declared.HeaderAt.{HeaderAt}
 use Rattle.script_parts.specs.declared.HeaderAt.the-variants as header
 use Rattle.script_parts.specs.declared.CountAt.{CountAt}

@@ -10,38 +10,39 @@ use mathlib.Core.Bool.{Bool, true, false, not, _&&_, true≢false, false≢true}
 use mathlib.Core.List.{List, [], _∷_, map}
 use Rattle.lists.proofs.Members.{not-true}
 use Rattle.types.specs.declared.Id.{Id}
-use Rattle.types.specs.declared.Answer.{Answer}
+use Rattle.answers.specs.declared.Answer.{Answer}
 use Rattle.types.specs.declared.Envelope.{Envelope}
 use Rattle.types.specs.declared.Rule.{Rule}
-use Rattle.types.specs.Answers.{answerOf}
+use Rattle.answers.specs.Answers.{answerOf}
 use Rattle.rules.specs.Outcome.{Outcome, done, refused, bind, guard, Caps, base}
 use Rattle.rules.specs.Network.{Net, onDeliver}
 use Rattle.rules.specs.Link as rules
 use Rattle.rules.specs.System.{withTimers, withLink, withMark, onlySets}
-use Rattle.types.specs.declared.Answer.the-variants.{Live, NotSet, Ignored}
-use Rattle.timers.specs.declared.Timers.{Timers}
-use Rattle.timers.specs.Views.{listed, timersOf}
+use Rattle.answers.specs.declared.Answer.the-variants.{Live, NotSet, Ignored}
+use Rattle.link_timers.specs.declared.Timers.{Timers}
+use Rattle.link_timers.specs.Views.{listed, timersOf}
 use Rattle.rules.specs.Timers.{noTimers, isSet, cancelTimer}
 use Rattle.rules.proofs.Timers.{cancel-timers}
-use Rattle.timers.proofs.Listed.{listed-timers, listed-timers-of}
-use Rattle.durable.specs.Views.{storedView}
+use Rattle.link_timers.proofs.Listed.{listed-timers, listed-timers-of}
+use Rattle.link_durable.specs.Views.{storedView}
 use Rattle.rules.proofs.Laws.{Holds}
 use Rattle.rules.proofs.Answers.{Among, on-done, on-guard, on-msg, on-started, on-timeout}
-use Rattle.network.specs.declared.Network.{Network}
-use Rattle.network.specs.declared.Sent.{Sent}
-use Rattle.network.specs.Views.{netView, networkOf, NetReady, sentOf}
-use Rattle.network.proofs.Ready.{viewed, deliver-ready}
-use Rattle.output.specs.declared.CommandSlot.{CommandSlot}
-use Rattle.output.specs.declared.Commands.{Commands}
-use Rattle.output.specs.Views.{commandView, commandsIn}
-use Rattle.link.specs.declared.Link.{Link}
-use Rattle.link.specs.declared.Did.{Did}
-use Rattle.link.specs.Views.{linkView, linkAs, didAs, toldBy}
-use Rattle.link.proofs.Saves.{Alike, told-back, link-back, start-tells, msg-tells, timeout-tells}
+use Rattle.net_network.specs.declared.Network.{Network}
+use Rattle.net_network.specs.declared.Sent.{Sent}
+use Rattle.net_network.specs.Views.{netView, networkOf, NetReady, sentOf}
+use Rattle.net_network.proofs.Ready.{viewed, deliver-ready}
+use Rattle.link_output.specs.declared.CommandSlot.{CommandSlot}
+use Rattle.link_output.specs.declared.Commands.{Commands}
+use Rattle.link_output.specs.Views.{commandView, commandsIn}
+use Rattle.link_handlers.specs.declared.Link.{Link}
+use Rattle.link_handlers.specs.declared.Did.{Did}
+use Rattle.link_handlers.specs.Views.{linkView, linkAs, didAs, toldBy}
+use Rattle.link_handlers.proofs.Saves.{Alike, told-back, link-back, start-tells, msg-tells, timeout-tells}
 use Rattle.parts.specs.Parts.{Part, netIn, actorIn, runPart, finishPart, wakePart, deliverPart, timedPart, timeoutPart, crashPart, recoverPart}
 use Rattle.parts.proofs.Answers.{on-finish, on-wake}
-use Rattle.actor.specs.declared.Actor.{Actor as Struct}
-use Rattle.actor.specs.Views.{actorView, actorAs, ActorLaid, isDone}
+use Rattle.sys_actor.specs.declared.Actor.{Actor as Struct}
+use Rattle.sys_actor.specs.Views.{actorView, actorAs, ActorLaid}
+use Rattle.answers.specs.Answers.{isDone}
 use Rattle.steps.specs.declared.Touched.{Touched}
 use Rattle.steps.specs.Views.{partView, didView, touchedOf, backTo}
 use Rattle.steps.proofs.Laws.{refusal, back-touched}

@@ -3,8 +3,8 @@
 use Prim.Native.Nat.{ℕ, suc, _≤_, _<_}
 use native.Mathlib.Omega.{arith}
 use mathlib.Core.Path.{_≡_, refl, sym, ap, _∙_, subst}
-use Rattle.types.specs.Answers.{answerOf}
-use Rattle.types.specs.declared.Answer.the-variants.{Done}
+use Rattle.answers.specs.Answers.{answerOf}
+use Rattle.answers.specs.declared.Answer.the-variants.{Done}
 use mathlib.Core.Bool.{Bool, true, false, not, true≢false, false≢true}
 use mathlib.Core.Option.{some}
 use mathlib.Core.List.{List, [], _∷_, map, map-map}
@@ -23,28 +23,29 @@ use Rattle.rules.specs.System.{Actor, withTimers, withStorage, withLink}
 use Rattle.rules.proofs.Answers.{Among}
 use Rattle.lists.proofs.Members.{not-true}
 use Rattle.rules.proofs.Timers.{TimerSet, set-timers, cancel-timers}
-use Rattle.timers.specs.Views.{listed, timersOf}
-use Rattle.timers.proofs.Listed.{listed-timers}
-use Rattle.network.specs.declared.Network.{Network}
-use Rattle.network.specs.declared.Sent.{Sent}
-use Rattle.network.specs.Views.{netView, networkOf, NetReady, sentOf}
-use Rattle.network.proofs.Changes.{held}
-use Rattle.network.proofs.Ready.{viewed, send-ready}
-use Rattle.durable.specs.Views.{durableView, storedView, storedAs}
-use Rattle.link.specs.declared.Link.{Link}
-use Rattle.output.specs.declared.CommandSlot.{CommandSlot}
-use Rattle.output.specs.declared.Commands.{Commands}
-use Rattle.link.specs.declared.Did.{Did}
-use Rattle.output.specs.declared.LinkCommand.{LinkCommand}
-use Rattle.output.specs.declared.LinkCommand.the-variants.{Set, Cancel, Send, Save}
-use Rattle.link.specs.Views.{linkView, linkAs}
-use Rattle.output.specs.Views.{commandView, commandsIn}
+use Rattle.link_timers.specs.Views.{listed, timersOf}
+use Rattle.link_timers.proofs.Listed.{listed-timers}
+use Rattle.net_network.specs.declared.Network.{Network}
+use Rattle.net_network.specs.declared.Sent.{Sent}
+use Rattle.net_network.specs.Views.{netView, networkOf, NetReady, sentOf}
+use Rattle.net_network.proofs.Changes.{held}
+use Rattle.net_network.proofs.Ready.{viewed, send-ready}
+use Rattle.link_durable.specs.Views.{durableView, storedView, storedAs}
+use Rattle.link_handlers.specs.declared.Link.{Link}
+use Rattle.link_output.specs.declared.CommandSlot.{CommandSlot}
+use Rattle.link_output.specs.declared.Commands.{Commands}
+use Rattle.link_handlers.specs.declared.Did.{Did}
+use Rattle.link_output.specs.declared.LinkCommand.{LinkCommand}
+use Rattle.link_output.specs.declared.LinkCommand.the-variants.{Set, Cancel, Send, Save}
+use Rattle.link_handlers.specs.Views.{linkView, linkAs}
+use Rattle.link_output.specs.Views.{commandView, commandsIn}
 use Rattle.parts.specs.Parts.{Part, netIn, actorIn, runPart, finishPart}
 use Rattle.parts.proofs.Answers.{on-run}
-use Rattle.actor.specs.declared.Actor.{Actor as Struct}
+use Rattle.sys_actor.specs.declared.Actor.{Actor as Struct}
 use Rattle.steps.specs.declared.Touched.{Touched}
-use Rattle.actor.specs.Views.{actorView, actorAs, ActorLaid, isDone}
-use Rattle.actor.proofs.Laws.{actor-back}
+use Rattle.sys_actor.specs.Views.{actorView, actorAs, ActorLaid}
+use Rattle.answers.specs.Answers.{isDone}
+use Rattle.sys_actor.proofs.Laws.{actor-back}
 use Rattle.steps.specs.Views.{partView, didView, touchedOf, backTo}
 
 abbrev pub doneWith : Network → Struct → Touched

@@ -3,9 +3,9 @@
 use mathlib.Core.Path.{_≡_}
 use mathlib.Core.List.{[]}
 use Rattle.lists.proofs.Single.{one-answer}
-use Rattle.network.specs.Views.{networkOf}
+use Rattle.net_network.specs.Views.{networkOf}
 use Rattle.rules.specs.Start.{blank}
-use Rattle.actor.specs.declared.Actor.{Actor}
+use Rattle.sys_actor.specs.declared.Actor.{Actor}
 use Rattle.steps.specs.Views.{Crashes}
 
 pub one-crash : (a x y : Actor) → Crashes a x → Crashes a y → x ≡ y

@@ -4,16 +4,17 @@ use mathlib.Core.Path.{_≡_}
 use mathlib.Core.List.{List, []}
 use Rattle.lists.specs.Lists.{choose}
 use Rattle.types.specs.declared.Rule.{Rule}
-use Rattle.types.specs.Answers.{answerOf}
+use Rattle.answers.specs.Answers.{answerOf}
 use Rattle.rules.specs.Outcome.{Outcome, done, refused}
-use Rattle.network.specs.declared.Network.{Network}
-use Rattle.network.specs.Views.{netView, networkOf}
+use Rattle.net_network.specs.declared.Network.{Network}
+use Rattle.net_network.specs.Views.{netView, networkOf}
 use Rattle.parts.specs.Parts.{Part, crashPart}
-use Rattle.actor.specs.declared.Actor.{Actor}
-use Rattle.actor.specs.Views.{actorView, actorAs, isDone}
+use Rattle.sys_actor.specs.declared.Actor.{Actor}
+use Rattle.sys_actor.specs.Views.{actorView, actorAs}
+use Rattle.answers.specs.Answers.{isDone}
 use Rattle.rules.specs.Link as rules
-use Rattle.link.specs.declared.Did.{Did}
-use Rattle.link.specs.Views.{linkView, toldBy}
+use Rattle.link_handlers.specs.declared.Did.{Did}
+use Rattle.link_handlers.specs.Views.{linkView, toldBy}
 use Rattle.steps.specs.declared.Touched.{Touched}
 
 abbrev pub partView : List Rule → Network → Actor → Part

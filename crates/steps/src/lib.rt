@@ -1,16 +1,16 @@
 // What a step does to the network and to the one actor that it touches: the core of every step.
-use actor::Actor;
-use actor::is_done;
-use durable::Stored;
-use inner::Table;
-use link::Did;
-use link::Link;
-use network::Network;
-use network::Sent;
-use output::Commands;
-use output::LinkCommand;
-use timers::Timers;
-use types::Answer;
+use answers::Answer;
+use answers::is_done;
+use link_durable::Stored;
+use link_handlers::Did;
+use link_handlers::Link;
+use link_inner::Table;
+use link_output::Commands;
+use link_output::LinkCommand;
+use link_timers::Timers;
+use net_network::Network;
+use net_network::Sent;
+use sys_actor::Actor;
 use types::Envelope;
 use types::Id;
 use types::Message;
@@ -19,22 +19,22 @@ ghost use mathlib.Core.Bool.{true, not, _&&_};
 ghost use mathlib.Core.List.{List, _∷_, [], map};
 ghost use Prim.Native.Nat.{_≤_, _<_};
 ghost use lib.ListN.{length, take};
-ghost use Rattle.output.specs.declared.CommandSlot.{CommandSlot};
+ghost use Rattle.link_output.specs.declared.CommandSlot.{CommandSlot};
 ghost use Rattle.types.specs.declared.Rule.{Rule};
 ghost use Rattle.rules.specs.Outcome.{base};
-ghost use Rattle.types.specs.declared.Answer.the-variants.{Done};
+ghost use Rattle.answers.specs.declared.Answer.the-variants.{Done};
 ghost use Rattle.rules.specs.Timers.{setTimer, cancelTimer};
 ghost use Rattle.rules.specs.Network.{send, onDeliver};
 ghost use Rattle.rules.specs.Link.{Durable};
 ghost use Rattle.rules.specs.System.{onlySets};
-ghost use Rattle.timers.specs.Views.{listed, timersOf};
-ghost use Rattle.network.specs.Views.{netView, NetReady, sentOf};
-ghost use Rattle.inner.specs.Views.{rulesOf, tableOk};
-ghost use Rattle.durable.specs.Views.{durableView, durableLaid, storedLaid};
-ghost use Rattle.link.specs.Views.{linkView, linkAs, toldBy};
-ghost use Rattle.output.specs.Views.{commandView, commandsIn};
+ghost use Rattle.link_timers.specs.Views.{listed, timersOf};
+ghost use Rattle.net_network.specs.Views.{netView, NetReady, sentOf};
+ghost use Rattle.link_inner.specs.Views.{rulesOf, tableOk};
+ghost use Rattle.link_durable.specs.Views.{durableView, durableLaid, storedLaid};
+ghost use Rattle.link_handlers.specs.Views.{linkView, linkAs, toldBy};
+ghost use Rattle.link_output.specs.Views.{commandView, commandsIn};
 ghost use Rattle.parts.specs.Parts.{runPart, finishPart, wakePart, deliverPart, timeoutPart, crashPart, recoverPart};
-ghost use Rattle.actor.specs.Views.{actorAs, ActorLaid};
+ghost use Rattle.sys_actor.specs.Views.{actorAs, ActorLaid};
 ghost use Rattle.steps.specs.Views.{partView, didView, touchedOf, backTo, Crashes};
 
 // Where the answer is not Done, network and actor are those that came.
@@ -94,7 +94,7 @@ fn post(i: Id, n: Network, r: Id, m: Message) -> Sent
     requires { ⌜ NetReady n ⌝ }
     ensures { λ x. ⌜ x ≡ sentOf n (send (base .room) (record { src = i; dst = r; msg = m }) (netView n)) ⌝ }
 {
-    network::send(
+    net_network::send(
         n,
         Envelope {
             src: i,
@@ -230,7 +230,7 @@ fn finish(i: Id, n: Network, a: Actor, d: Did) -> Touched
 
 // ---- the actions, after 2 and Ignored for the destination
 // A message to a live actor: its envelope has been taken from the network as s says, then the commands run.
-pub fn deliver(e: Envelope, s: Sent, n: Network, a: Actor, t: Table) -> Touched
+pub fn hand_over(e: Envelope, s: Sent, n: Network, a: Actor, t: Table) -> Touched
     requires { ⌜ NetReady n × ActorLaid a × (tableOk t ≡ true) × (durableLaid (a .link .durable) ≡ true) × (e .src .0 < 8) × (s ≡ sentOf n (onDeliver e (netView n))) ⌝ }
     ensures { λ x. ⌜ x ≡ touchedOf n a (deliverPart base e (partView (rulesOf t) n a)) ⌝ }
 {
@@ -242,7 +242,7 @@ pub fn deliver(e: Envelope, s: Sent, n: Network, a: Actor, t: Table) -> Touched
     let l = a.link;
     let source = e.src;
     let message = e.msg;
-    let d = link::on_msg(t, l, source, message);
+    let d = link_handlers::on_msg(t, l, source, message);
     let told = d.answer;
     if !is_done(told) {
         return refused(told, n, a);
@@ -258,7 +258,7 @@ pub fn wake(i: Id, n: Network, a: Actor, t: Table) -> Touched
     ensures { λ x. ⌜ x ≡ touchedOf n a (wakePart base i (partView (rulesOf t) n a)) ⌝ }
 {
     let s = a.stored;
-    let d = link::on_start(t, s);
+    let d = link_handlers::on_start(t, s);
     let told = d.answer;
     if !is_done(told) {
         return refused(told, n, a);
@@ -352,7 +352,7 @@ pub fn timeout(i: Id, timer: u8, n: Network, a: Actor, t: Table) -> Touched
         return refused(Answer::NotSet, n, a);
     }
     let l = a.link;
-    let d = link::on_timeout(t, l, timer);
+    let d = link_handlers::on_timeout(t, l, timer);
     let told = d.answer;
     if !is_done(told) {
         return refused(told, n, a);

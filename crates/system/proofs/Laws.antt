@@ -19,18 +19,18 @@ use Rattle.rules.specs.Outcome.{base}
 use Rattle.rules.specs.Network.{Net}
 use Rattle.rules.specs.System as rules
 use Rattle.rules.specs.WellFormed.{netOk, actorOk, wellFormed}
-use Rattle.timers.proofs.Listed.{listed-timers}
-use Rattle.network.specs.Views.{zeroEntry, netView, networkOf, NetLaid, NetReady}
-use Rattle.network.proofs.Changes.{held}
-use Rattle.network.proofs.Ready.{ready-of-ok, viewed, laid-of}
-use Rattle.network_formed.specs.Formed.{laidOut, netFormed}
-use Rattle.network_formed.proofs.Laws.{laid-out, laid-passes, formed-is}
-use Rattle.durable.proofs.Containers.{pad-view}
-use Rattle.inner.specs.declared.Table.{Table}
-use Rattle.inner.specs.Views.{tableOk}
-use Rattle.actor.specs.declared.Actor.{Actor}
-use Rattle.actor.specs.Views.{actorAs, actorView, ActorLaid, actorLaid, actorFine, zeroActor, blankActor}
-use Rattle.actor.proofs.Laws.{actor-laid, actor-back, actor-kept, fine-laid-out, timers-of, rules-of, blank-zero, zero-blank}
+use Rattle.link_timers.proofs.Listed.{listed-timers}
+use Rattle.net_network.specs.Views.{zeroEntry, netView, networkOf, NetLaid, NetReady}
+use Rattle.net_network.proofs.Changes.{held}
+use Rattle.net_network.proofs.Ready.{ready-of-ok, viewed, laid-of}
+use Rattle.net_formed.specs.Formed.{laidOut, netFormed}
+use Rattle.net_formed.proofs.Laws.{laid-out, laid-passes, formed-is}
+use Rattle.link_durable.proofs.Containers.{pad-view}
+use Rattle.link_inner.specs.declared.Table.{Table}
+use Rattle.link_inner.specs.Views.{tableOk}
+use Rattle.sys_actor.specs.declared.Actor.{Actor}
+use Rattle.sys_actor.specs.Views.{actorAs, actorView, ActorLaid, actorLaid, actorFine, zeroActor, blankActor}
+use Rattle.sys_actor.proofs.Laws.{actor-laid, actor-back, actor-kept, fine-laid-out, timers-of, rules-of, blank-zero, zero-blank}
 use Rattle.system.specs.declared.System.{System}
 use Rattle.system.specs.Views.{zeroTable, tableAs, TableLaid, seated, tableFor, sysView, systemOf, SystemLaid, tableLaid, blankTable, systemLaid, systemFine}
 use Rattle.system.proofs.Types.{SystemTyped}

@@ -12,11 +12,11 @@ use Rattle.types.specs.declared.Rule.{Rule}
 use Rattle.rules.specs.Outcome.{base}
 use Rattle.rules.specs.System as rules
 use Rattle.rules.specs.WellFormed.{actorOk}
-use Rattle.inner.specs.declared.Table.{Table}
-use Rattle.inner.specs.Views.{rulesOf, tableOk}
-use Rattle.actor.specs.declared.Actor.{Actor}
-use Rattle.actor.specs.Views.{actorView, actorAs, ActorLaid, actorLaid, actorFine}
-use Rattle.actor.proofs.Laws.{actor-back, actor-formed, formed-fine, fine-laid-out, timers-of, rules-of, actor-kept}
+use Rattle.link_inner.specs.declared.Table.{Table}
+use Rattle.link_inner.specs.Views.{rulesOf, tableOk}
+use Rattle.sys_actor.specs.declared.Actor.{Actor}
+use Rattle.sys_actor.specs.Views.{actorView, actorAs, ActorLaid, actorLaid, actorFine}
+use Rattle.sys_actor.proofs.Laws.{actor-back, actor-formed, formed-fine, fine-laid-out, timers-of, rules-of, actor-kept}
 use Rattle.system.specs.Views.{tableAs, TableLaid, seated, tableFor, tableLaid}
 use Rattle.system.proofs.Tables.{table-parts, table-make, rules-back, table-kept}
 

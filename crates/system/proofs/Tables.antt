@@ -17,9 +17,9 @@ use Rattle.types.specs.declared.RuleCommand.{RuleCommand}
 use Rattle.types.specs.declared.RuleCommand.the-variants.{SetTimer, CancelTimer, Send, Save}
 use Rattle.types.specs.declared.Slot.{Slot}
 use Rattle.rules.specs.WellFormed.{zeroCommand, unused, ruleOk, sound}
-use Rattle.inner.specs.declared.Table.{Table}
-use Rattle.inner.specs.Views.{rulesOf, blankRule, tableOk}
-use Rattle.durable.proofs.Containers.{pad-view}
+use Rattle.link_inner.specs.declared.Table.{Table}
+use Rattle.link_inner.specs.Views.{rulesOf, blankRule, tableOk}
+use Rattle.link_durable.proofs.Containers.{pad-view}
 use Rattle.system.specs.Views.{zeroSlot, zeroRule, tableAs, TableLaid, zeroTable, tableLaid, blankTable}
 use Rattle.system.proofs.Types.{TableTyped}
 

@@ -14,11 +14,11 @@ use Rattle.lists.specs.Lists.{_∈_}
 use Rattle.lists.proofs.Places.{length-mapped}
 use Rattle.types.specs.declared.Rule.{Rule}
 use Rattle.types.proofs.Rule as rule
-use Rattle.inner.specs.declared.Table.{Table}
-use Rattle.inner.proofs.Table as table
-use Rattle.actor.specs.declared.Actor.{Actor}
-use Rattle.actor.proofs.Actor as actor
-use Rattle.actor.proofs.Laws.{Typed}
+use Rattle.link_inner.specs.declared.Table.{Table}
+use Rattle.link_inner.proofs.Table as table
+use Rattle.sys_actor.specs.declared.Actor.{Actor}
+use Rattle.sys_actor.proofs.Actor as actor
+use Rattle.sys_actor.proofs.Laws.{Typed}
 use Rattle.system.specs.declared.System.{System}
 use Rattle.system.proofs.System as system
 

@@ -13,12 +13,12 @@ use Rattle.types.specs.declared.RuleCommand.the-variants.{SetTimer}
 use Rattle.rules.specs.Outcome.{base}
 use Rattle.rules.specs.System as rules
 use Rattle.rules.specs.WellFormed.{wellFormed}
-use Rattle.network.specs.Views.{netView, networkOf}
-use Rattle.network_formed.specs.Formed.{laidOut}
-use Rattle.inner.specs.declared.Table.{Table}
-use Rattle.inner.specs.Views.{rulesOf, blankRule}
-use Rattle.actor.specs.declared.Actor.{Actor}
-use Rattle.actor.specs.Views.{actorView, actorAs, actorLaid, zeroActor, blankActor}
+use Rattle.net_network.specs.Views.{netView, networkOf}
+use Rattle.net_formed.specs.Formed.{laidOut}
+use Rattle.link_inner.specs.declared.Table.{Table}
+use Rattle.link_inner.specs.Views.{rulesOf, blankRule}
+use Rattle.sys_actor.specs.declared.Actor.{Actor}
+use Rattle.sys_actor.specs.Views.{actorView, actorAs, actorLaid, zeroActor, blankActor}
 use Rattle.system.specs.declared.System.{System}
 
 -- ---- a table, all zero where it is not used

@@ -1,8 +1,8 @@
 // A system of actors: its network, its actors, and their tables.
-use actor::Actor;
-use actor::zero_actor;
-use inner::Table;
-use network::Network;
+use link_inner::Table;
+use net_network::Network;
+use sys_actor::Actor;
+use sys_actor::zero_actor;
 use types::Kind;
 use types::Rule;
 use types::RuleCommand;
@@ -46,7 +46,7 @@ pub fn zero_table() -> Table
 pub fn blank() -> System
     ensures { λ r. ⌜ r ≡ systemOf start.blank ⌝ }
 {
-    let n = network::blank(Kind::Ordered);
+    let n = net_network::blank(Kind::Ordered);
     let a = zero_actor();
     let t = zero_table();
     System {

@@ -3,9 +3,9 @@
 use mathlib.Core.Bool.{false}
 use mathlib.Core.List.{[]}
 use Rattle.types.specs.declared.Storage.the-variants.{Nothing}
-use Rattle.durable.specs.declared.Durable.{Durable}
-use Rattle.inner.specs.declared.Table.{Table}
-use Rattle.actor.specs.declared.Actor.{Actor}
+use Rattle.link_durable.specs.declared.Durable.{Durable}
+use Rattle.link_inner.specs.declared.Table.{Table}
+use Rattle.sys_actor.specs.declared.Actor.{Actor}
 
 abbrev no-durable : Durable
 no-durable = record { next = record { 0 = 0 }; pending = record { records = []; used = 0 }; taken = record { last = []; used = 0 }; inner = Nothing }

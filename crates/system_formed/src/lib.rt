@@ -1,18 +1,18 @@
 // Whether a system is laid out and well formed, asked of any content that the struct can hold.
-use actor::Actor;
-use actor::actor_ok;
-use actor::blank_actor;
-use inner::Table;
-use inner::sound_table;
-use network_formed::net_ok;
+use link_inner::Table;
+use link_inner::sound_table;
+use net_formed::net_ok;
+use sys_actor::Actor;
+use sys_actor::actor_ok;
+use sys_actor::blank_actor;
 use system::System;
 ghost use mathlib.Core.Path.{_≡_};
 ghost use mathlib.Core.Bool.{true};
 ghost use Prim.Native.Nat.{_≤_};
 ghost use lib.ListN.{take, drop};
 ghost use Rattle.lists.specs.Lists.{all};
-ghost use Rattle.inner.specs.Views.{tableOk};
-ghost use Rattle.actor.specs.Views.{actorFine, blankActor};
+ghost use Rattle.link_inner.specs.Views.{tableOk};
+ghost use Rattle.sys_actor.specs.Views.{actorFine, blankActor};
 ghost use Rattle.system.specs.Views.{SystemLaid, blankTable, systemFine};
 
 // The actors in use.

@@ -12,12 +12,12 @@ use Rattle.lists.proofs.Places.{set-pad}
 use Rattle.types.specs.declared.Id.{Id}
 use Rattle.types.specs.declared.Rule.{Rule}
 use Rattle.rules.specs.System as rules
-use Rattle.network.specs.Views.{netView, networkOf}
-use Rattle.inner.specs.declared.Table.{Table}
-use Rattle.inner.specs.Views.{rulesOf}
-use Rattle.actor.specs.declared.Actor.{Actor}
-use Rattle.actor.specs.Views.{actorAs, actorLaid, zeroActor}
-use Rattle.actor.proofs.Laws.{actor-kept, fine-laid-out}
+use Rattle.net_network.specs.Views.{netView, networkOf}
+use Rattle.link_inner.specs.declared.Table.{Table}
+use Rattle.link_inner.specs.Views.{rulesOf}
+use Rattle.sys_actor.specs.declared.Actor.{Actor}
+use Rattle.sys_actor.specs.Views.{actorAs, actorLaid, zeroActor}
+use Rattle.sys_actor.proofs.Laws.{actor-kept, fine-laid-out}
 use Rattle.parts.specs.Parts.{Part, partOf, putBack}
 use Rattle.steps.specs.Views.{partView}
 use Rattle.system.specs.declared.System.{System}

@@ -2,7 +2,7 @@
 -- Assumes nothing.
 use mathlib.Core.Path.{_≡_}
 use mathlib.Core.Bool.{true}
-use Rattle.types.specs.Answers.{answerOf}
+use Rattle.answers.specs.Answers.{answerOf}
 use Rattle.rules.specs.Outcome.{Outcome, done, refused, base}
 use Rattle.rules.specs.System.{Sys}
 use Rattle.rules.specs.WellFormed.{wellFormed}

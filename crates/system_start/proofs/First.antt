@@ -21,12 +21,12 @@ use Rattle.types.specs.declared.Rule.{Rule}
 use Rattle.rules.specs.Network.{Net, kindOf}
 use Rattle.rules.specs.System as rules
 use Rattle.rules.specs.Start.{boot}
-use Rattle.network.specs.Views.{networkOf}
-use Rattle.inner.specs.declared.Table.{Table}
-use Rattle.inner.specs.Views.{rulesOf, tableOk}
-use Rattle.inner.proofs.Table as table
-use Rattle.actor.specs.declared.Actor.{Actor}
-use Rattle.actor.specs.Views.{actorAs, zeroActor}
+use Rattle.net_network.specs.Views.{networkOf}
+use Rattle.link_inner.specs.declared.Table.{Table}
+use Rattle.link_inner.specs.Views.{rulesOf, tableOk}
+use Rattle.link_inner.proofs.Table as table
+use Rattle.sys_actor.specs.declared.Actor.{Actor}
+use Rattle.sys_actor.specs.Views.{actorAs, zeroActor}
 use Rattle.system.specs.declared.System.{System}
 use Rattle.system.specs.Views.{TableLaid, tableFor, zeroTable, systemOf}
 use Rattle.system.proofs.Types.{TableTyped, table-says}

@@ -11,7 +11,7 @@ use borrow.Author.Tests.{eqb-true}
 use lib.Dec.{eqb}
 use Rattle.lists.specs.Lists.{_∈_, any, all, pad}
 use Rattle.lists.proofs.Members.{any-in, all-in}
-use Rattle.types.specs.Answers.{answerOf}
+use Rattle.answers.specs.Answers.{answerOf}
 use Rattle.types.specs.declared.Rule.{Rule}
 use Rattle.rules.specs.Outcome.{Outcome, done, refused, bind, guard, base}
 use Rattle.rules.specs.Network.{Net, kindOf}
@@ -25,11 +25,12 @@ use Rattle.rules.proofs.Formed.{Left, is-sys, fill-formed, boot-formed, boot-ma
 use Rattle.rules.proofs.Answers.{Among, on-guard, start-answers, start-done}
 use Rattle.parts.specs.Parts.{systems, mapped}
 use Rattle.parts.proofs.Outcomes.{systems-guard, systems-bind, guarded, unguarded}
-use Rattle.network.specs.declared.Sent.{Sent}
-use Rattle.network.specs.Views.{networkOf, sentOf}
-use Rattle.inner.specs.declared.Table.{Table}
-use Rattle.actor.specs.declared.Actor.{Actor}
-use Rattle.actor.specs.Views.{actorAs, zeroActor, isDone}
+use Rattle.net_network.specs.declared.Sent.{Sent}
+use Rattle.net_network.specs.Views.{networkOf, sentOf}
+use Rattle.link_inner.specs.declared.Table.{Table}
+use Rattle.sys_actor.specs.declared.Actor.{Actor}
+use Rattle.sys_actor.specs.Views.{actorAs, zeroActor}
+use Rattle.answers.specs.Answers.{isDone}
 use Rattle.steps.proofs.Laws.{refusal}
 use Rattle.steps.proofs.Actions.{done-of, refused-of, sent-answer}
 use Rattle.system.specs.declared.System.{System}

@@ -8,8 +8,8 @@ use lib.ListN.{length, take, getD}
 use lib.Seq.{slice, slice-cons, slice-empty}
 use lib.Dec.{lit≤}
 use Rattle.lists.specs.Lists.{all, chain}
-use Rattle.types.specs.Answers.{answerOf}
-use Rattle.types.specs.declared.Answer.the-variants.{Done}
+use Rattle.answers.specs.Answers.{answerOf}
+use Rattle.answers.specs.declared.Answer.the-variants.{Done}
 use Rattle.types.specs.declared.Envelope.{Envelope}
 use Rattle.types.specs.declared.Kind.{Kind}
 use Rattle.rules.specs.Outcome.{Outcome, bind, Room, base}
@@ -19,12 +19,12 @@ use Rattle.rules.specs.Start.{fill}
 use Rattle.rules.proofs.Answers.{Among, on-done, on-guard, on-bind}
 use Rattle.parts.specs.Parts.{mapped}
 use Rattle.parts.proofs.Outcomes.{mapped-bind, bind-same}
-use Rattle.network.specs.declared.Network.{Network}
-use Rattle.network.specs.declared.Sent.{Sent}
-use Rattle.network.specs.Views.{netView, networkOf, NetReady, sentOf}
-use Rattle.network.proofs.Changes.{held}
-use Rattle.network.proofs.Ready.{viewed, ready-of, send-ready}
-use Rattle.actor.specs.Views.{isDone}
+use Rattle.net_network.specs.declared.Network.{Network}
+use Rattle.net_network.specs.declared.Sent.{Sent}
+use Rattle.net_network.specs.Views.{netView, networkOf, NetReady, sentOf}
+use Rattle.net_network.proofs.Changes.{held}
+use Rattle.net_network.proofs.Ready.{viewed, ready-of, send-ready}
+use Rattle.answers.specs.Answers.{isDone}
 use Rattle.steps.proofs.Laws.{refusal}
 use Rattle.steps.proofs.Actions.{done-of, refused-of, sent-answer}
 use Rattle.system_start.specs.Views.{emptyNet, sendAll}

@@ -14,8 +14,8 @@ use Rattle.lists.proofs.Members.{and-both, and-make, every-cons, every-make, ev
 use Rattle.lists.proofs.Walks.{all-map}
 use Rattle.rules.specs.WellFormed.{sourceKnown, sound}
 use Rattle.rules.specs.Start.{startable}
-use Rattle.inner.specs.declared.Table.{Table}
-use Rattle.inner.specs.Views.{rulesOf, tableOk}
+use Rattle.link_inner.specs.declared.Table.{Table}
+use Rattle.link_inner.specs.Views.{rulesOf, tableOk}
 use Rattle.system.specs.Views.{tableLaid}
 use Rattle.system.proofs.Tables.{table-parts, table-make}
 use Rattle.system.proofs.Laws.{same-true}

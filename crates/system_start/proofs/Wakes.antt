@@ -8,8 +8,8 @@ use mathlib.Core.List.{List, [], _∷_}
 use lib.ListN.{length, drop, getD, set, drop-of-length-le}
 use lib.Seq.{drop-cons}
 use Rattle.lists.proofs.Members.{every-cons}
-use Rattle.types.specs.Answers.{answerOf}
-use Rattle.types.specs.declared.Answer.the-variants.{Done}
+use Rattle.answers.specs.Answers.{answerOf}
+use Rattle.answers.specs.declared.Answer.the-variants.{Done}
 use Rattle.types.specs.declared.Id.{Id}
 use Rattle.rules.specs.Outcome.{Outcome, done, refused, bind, Caps, base}
 use Rattle.rules.specs.System.{Sys, Next, wake, ended}
@@ -21,14 +21,15 @@ use Rattle.parts.specs.Parts.{Part, partOf, putBack, wakePart, systems, mapped}
 use Rattle.parts.proofs.Laws.{put-part, wake-parts}
 use Rattle.parts.proofs.Answers.{on-wake}
 use Rattle.parts.proofs.Kept.{Ruled, wake-ruled}
-use Rattle.network.specs.declared.Network.{Network}
-use Rattle.network.specs.Views.{NetReady}
-use Rattle.inner.specs.declared.Table.{Table}
-use Rattle.inner.specs.Views.{rulesOf, tableOk}
-use Rattle.durable.specs.Views.{storedLaid, storedFine}
-use Rattle.actor.specs.declared.Actor.{Actor}
-use Rattle.actor.specs.Views.{actorAs, ActorLaid, zeroActor, isDone}
-use Rattle.actor.proofs.Laws.{fine-is, actor-kept}
+use Rattle.net_network.specs.declared.Network.{Network}
+use Rattle.net_network.specs.Views.{NetReady}
+use Rattle.link_inner.specs.declared.Table.{Table}
+use Rattle.link_inner.specs.Views.{rulesOf, tableOk}
+use Rattle.link_durable.specs.Views.{storedLaid, storedFine}
+use Rattle.sys_actor.specs.declared.Actor.{Actor}
+use Rattle.sys_actor.specs.Views.{actorAs, ActorLaid, zeroActor}
+use Rattle.answers.specs.Answers.{isDone}
+use Rattle.sys_actor.proofs.Laws.{fine-is, actor-kept}
 use Rattle.steps.specs.declared.Touched.{Touched}
 use Rattle.steps.specs.Views.{partView, touchedOf}
 use Rattle.steps.proofs.Laws.{refusal}

@@ -17,8 +17,8 @@ use Rattle.rules.specs.Network.{Net, send}
 use Rattle.rules.specs.System.{Sys, actor}
 use Rattle.rules.specs.Start.{startable, start}
 use Rattle.parts.specs.Parts.{systems}
-use Rattle.inner.specs.declared.Table.{Table}
-use Rattle.inner.specs.Views.{rulesOf}
+use Rattle.link_inner.specs.declared.Table.{Table}
+use Rattle.link_inner.specs.Views.{rulesOf}
 use Rattle.system.specs.declared.System.{System}
 use Rattle.system.specs.Views.{tableLaid, sysView}
 use Rattle.system_parts.specs.Views.{Ready}

@@ -1,18 +1,18 @@
 // The start of a system: the tests before it, the first system, the given envelopes, and the actors woken in turn.
-use actor::Actor;
-use actor::is_done;
-use actor::zero_actor;
-use durable::fresh_durable;
-use inner::Table;
-use link::Link;
-use network::Network;
-use network::Sent;
+use answers::Answer;
+use answers::is_done;
+use link_durable::fresh_durable;
+use link_handlers::Link;
+use link_inner::Table;
+use net_network::Network;
+use net_network::Sent;
+use sys_actor::Actor;
+use sys_actor::zero_actor;
 use system::System;
 use system::blank;
 use system::zero_table;
 use system_formed::tables_ok;
 use system_parts::Answered;
-use types::Answer;
 use types::Envelope;
 use types::Id;
 use types::Kind;
@@ -27,8 +27,8 @@ ghost use Rattle.rules.specs.System.{unstarted};
 ghost use Rattle.rules.specs.WellFormed.{sourceKnown};
 ghost use Rattle.rules.specs.Start as rules;
 ghost use Rattle.parts.specs.Parts.{systems};
-ghost use Rattle.network.specs.Views.{netView, networkOf, NetReady, sentOf};
-ghost use Rattle.actor.specs.Views.{actorAs, zeroActor};
+ghost use Rattle.net_network.specs.Views.{netView, networkOf, NetReady, sentOf};
+ghost use Rattle.sys_actor.specs.Views.{actorAs, zeroActor};
 ghost use Rattle.system.specs.Views.{zeroTable, sysView, systemOf};
 ghost use Rattle.system_parts.specs.Views.{answeredOf};
 ghost use Rattle.system_start.specs.Views.{givenView, startFine, emptyNet, sendAll, Awaiting, started};
@@ -156,7 +156,7 @@ fn fill(n: Network, list: [Envelope; 128], used: usize) -> Sent
     let mut i = 0;
     while i < used {
         let here = list[i];
-        let s = network::send(net, here);
+        let s = net_network::send(net, here);
         let answer = s.answer;
         if !is_done(answer) {
             return Sent {
@@ -180,7 +180,7 @@ fn filled(kind: u8, given: Given) -> Sent
     ensures { λ r. ⌜ r ≡ sentOf (networkOf (emptyNet (kindOf kind))) (sendAll (base .room) (givenView given) (emptyNet (kindOf kind))) ⌝ }
 {
     let k = kind_of(kind);
-    let n = network::blank(k);
+    let n = net_network::blank(k);
     let list = given.list;
     let used = given.used;
     fill(n, list, used)

@@ -13,8 +13,8 @@ use Rattle.lists.proofs.Members.{not-true, every-cons}
 use Rattle.lists.proofs.Places.{length-pad}
 use Rattle.types.specs.declared.Id.{Id}
 use Rattle.types.specs.declared.Action.{Action}
-use Rattle.types.specs.declared.Answer.the-variants.{Done}
-use Rattle.types.specs.Answers.{answerOf}
+use Rattle.answers.specs.declared.Answer.the-variants.{Done}
+use Rattle.answers.specs.Answers.{answerOf}
 use Rattle.rules.specs.Outcome.{Outcome, done, refused, guard, base}
 use Rattle.rules.specs.System as rules
 use Rattle.rules.specs.Run.{step}
@@ -22,11 +22,12 @@ use Rattle.rules.specs.WellFormed.{wellFormed}
 use Rattle.rules.proofs.Laws.{Holds}
 use Rattle.rules.proofs.Answers.{Among}
 use Rattle.rules.proofs.Formed.{step-formed}
-use Rattle.network.specs.declared.Network.{Network}
-use Rattle.inner.specs.declared.Table.{Table}
-use Rattle.inner.specs.Views.{rulesOf}
-use Rattle.actor.specs.declared.Actor.{Actor}
-use Rattle.actor.specs.Views.{isDone, actorAs, zeroActor, actorLaid}
+use Rattle.net_network.specs.declared.Network.{Network}
+use Rattle.link_inner.specs.declared.Table.{Table}
+use Rattle.link_inner.specs.Views.{rulesOf}
+use Rattle.sys_actor.specs.declared.Actor.{Actor}
+use Rattle.sys_actor.specs.Views.{actorAs, zeroActor, actorLaid}
+use Rattle.answers.specs.Answers.{isDone}
 use Rattle.parts.specs.Parts.{Part, partOf, putBack, target, seat, actPart, systems, mapped}
 use Rattle.parts.proofs.Outcomes.{guarded}
 use Rattle.parts.proofs.Laws.{set-get}

@@ -1,13 +1,13 @@
 // A step of a whole system: 9 first, then the action on the network and the one actor that it touches.
 use act::act;
 use act::seat;
-use actor::is_done;
+use answers::Answer;
+use answers::is_done;
 use steps::Touched;
 use system::System;
 use system_formed::well_formed;
 use system_parts::Answered;
 use types::Action;
-use types::Answer;
 ghost use mathlib.Core.Path.{_≡_};
 ghost use Prim.Native.Nat.{_<_};
 ghost use Rattle.rules.specs.Outcome.{base};

@@ -1,6 +1,6 @@
-use Rattle.inner.specs.Views.{rulesOf}
+use Rattle.link_inner.specs.Views.{rulesOf}
 use Rattle.act.proofs.Laws.{stops, goes, crashed}
-use Rattle.types.specs.Answers.{answerOf}
+use Rattle.answers.specs.Answers.{answerOf}
 use Rattle.parts.specs.Parts.{actPart}
 use borrow.Author.Tests.{not-true, not-false}
 use mathlib.Core.Path.{sym, ap, _∙_}

@@ -4,15 +4,15 @@ use mathlib.Core.Path.{_≡_, sym, ap, _∙_}
 use mathlib.Core.Bool.{Bool, not, _&&_}
 use lib.Dec.{ltb}
 use borrow.Author.Tests.{ltb-true}
-use Rattle.types.specs.declared.Answer.{Answer}
-use Rattle.types.specs.declared.Answer.the-variants.{OutOfRange, Ignored}
+use Rattle.answers.specs.declared.Answer.{Answer}
+use Rattle.answers.specs.declared.Answer.the-variants.{OutOfRange, Ignored}
 use Rattle.lists.specs.Lists.{choose}
-use Rattle.refusals.specs.declared.Refusal.{Refusal}
-use Rattle.refusals.specs.declared.Refusal.the-variants.{Nothing, Because}
-use Rattle.refusals.specs.Views.{firstOf}
+use Rattle.answers.specs.declared.Refusal.{Refusal}
+use Rattle.answers.specs.declared.Refusal.the-variants.{Nothing, Because}
+use Rattle.answers.specs.Refusals.{firstOf}
 use Rattle.parts.specs.Parts.{actPart}
-use Rattle.inner.specs.Views.{rulesOf}
-use Rattle.actor.specs.Views.{isDone}
+use Rattle.link_inner.specs.Views.{rulesOf}
+use Rattle.answers.specs.Answers.{isDone}
 use Rattle.steps.proofs.Actions.{deliver-absent}
 use Rattle.act.proofs.Laws.{barred, goes, none-barred, one-barred}
 use borrow.Author.Needs.{needs}
@@ -71,8 +71,8 @@ refused-requires c κs = search needs
 enum-told : tie.Need-enum-told
 enum-told c = search needs
 
-deliver-requires : tie.Need-deliver-requires
-deliver-requires c κs =
+hand-over-requires : tie.Need-hand-over-requires
+hand-over-requires c κs =
     let s = c .before .before .before .before .before .before .before .before .before .before .before .before .before in
     let o = none-barred _ _ _ _ (sym (order (c .before .before)) ∙ c .enum-told .given .1) in
     let l = ltb-true (s .args .e .src .0) (s .args .count) (o .source-known) in
@@ -92,7 +92,7 @@ unfolding actPart
 returns-2 c =
     let s = c .before .before .before .before .before .before .before .before .before .before .before .before .before .before .args in
     let o = none-barred _ _ _ _ (sym (order (c .before .before .before)) ∙ c .before .enum-told .given .1) in
-    c .deliver .ensures ∙ goes (s .n) (s .a) _ 1 _ (o .heard-there) ∙ goes (s .n) (s .a) _ 2 _ (o .source-known)
+    c .hand-over .ensures ∙ goes (s .n) (s .a) _ 1 _ (o .heard-there) ∙ goes (s .n) (s .a) _ 2 _ (o .source-known)
 
 pub deliver-spec : {M : Type 1} → statement M
 deliver-spec =
@@ -110,6 +110,6 @@ deliver-spec =
     enum-known-refusal
     refused-requires
     enum-told
-    deliver-requires
+    hand-over-requires
     returns
     returns-2)

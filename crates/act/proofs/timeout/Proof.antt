@@ -1,6 +1,6 @@
 use lib.Dec.{ltb}
 use Rattle.act.proofs.Laws.{stops, goes, no-and, late, and-both}
-use Rattle.types.specs.Answers.{answerOf}
+use Rattle.answers.specs.Answers.{answerOf}
 use Rattle.parts.specs.Parts.{actPart}
 use borrow.Author.Tests.{not-true, not-false}
 use mathlib.Core.Path.{sym, ap, _∙_}

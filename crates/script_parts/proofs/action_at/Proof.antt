@@ -1,7 +1,7 @@
 use native.Mathlib.Omega.{arith}
 use mathlib.Core.Path.{sym, ap, _∙_}
 use Rattle.rules.specs.Script.{version1, actionForm, takeAction}
-use Rattle.records.specs.Views.{actionSize}
+use Rattle.script_records.specs.Views.{actionSize}
 use Rattle.script_parts.proofs.Answers.{fits, tells, actionHere, action-answers}
 use lib.ListN.{drop}
 use Rattle.layout.specs.Read.{one}

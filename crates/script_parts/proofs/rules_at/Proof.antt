@@ -7,7 +7,7 @@ use lib.ListN.{take}
 use Rattle.lists.specs.Lists.{pad}
 use Rattle.layout.specs.Read.{one}
 use Rattle.rules.specs.Script.{ruleForm}
-use Rattle.records.specs.Views.{zeroRule}
+use Rattle.script_records.specs.Views.{zeroRule}
 use Rattle.script_parts.specs.Views.{tableAt}
 use Rattle.script_parts.proofs.Readings.{rule-found, rule-bad}
 use Rattle.script_parts.proofs.Loops.{Reads, reads-none, reads-more, reads-bad, reads-all, reads-count}

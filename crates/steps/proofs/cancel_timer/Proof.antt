@@ -4,7 +4,7 @@ use Rattle.steps.proofs.cancel_timer.Tie as tie
 use Rattle.steps.proofs.cancel_timer.Reads as reads
 use Rattle.steps.proofs.cancel_timer.Lts as lts
 use Rattle.steps.proofs.with_timers.Reads as with-timers-reads
-use Rattle.timers.proofs.Timers.cancel.Reads as cancel-reads
+use Rattle.link_timers.proofs.Timers.cancel.Reads as cancel-reads
 
 -- src/lib.rt:87:9
 cancel-requires : tie.Need-cancel-requires

@@ -2,7 +2,7 @@ use mathlib.Core.Path.{_≡_, sym, ap, _∙_}
 use lib.ListN.{length}
 use Rattle.lists.proofs.Places.{length-mapped}
 use Rattle.rules.specs.System.{onlySets}
-use Rattle.output.specs.declared.LinkCommand.the-variants.{Set}
+use Rattle.link_output.specs.declared.LinkCommand.the-variants.{Set}
 use Rattle.steps.proofs.Actions.{only-one, told-length, told-first}
 use borrow.Author.Needs.{needs}
 use Rattle.steps.proofs.only_sets.Statement.{statement}

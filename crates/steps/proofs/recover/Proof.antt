@@ -1,8 +1,8 @@
 use borrow.Author.Tests.{not-true, not-false}
 use mathlib.Core.Path.{sym, ap, _∙_}
 use mathlib.Core.Bool.{false}
-use Rattle.inner.specs.Views.{rulesOf}
-use Rattle.durable.specs.Views.{storedLaid}
+use Rattle.link_inner.specs.Views.{rulesOf}
+use Rattle.link_durable.specs.Views.{storedLaid}
 use Rattle.steps.specs.Views.{backTo}
 use Rattle.steps.proofs.Actions.{recover-live, marked, recover-wakes}
 use borrow.Author.Needs.{needs}

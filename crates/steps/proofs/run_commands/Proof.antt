@@ -3,8 +3,8 @@ use mathlib.Core.Path.{_≡_, sym, ap, _∙_, subst}
 use native.Mathlib.Numerals.{add-one}
 use borrow.Author.Tests.{not-true, not-false}
 use lib.ListN.{length}
-use Rattle.output.specs.declared.CommandSlot.{CommandSlot}
-use Rattle.output.specs.declared.LinkCommand.the-variants.{Set}
+use Rattle.link_output.specs.declared.CommandSlot.{CommandSlot}
+use Rattle.link_output.specs.declared.LinkCommand.the-variants.{Set}
 use Rattle.rules.specs.Outcome.{base}
 use Rattle.parts.specs.Parts.{runPart}
 use Rattle.lists.proofs.Places.{length-mapped}

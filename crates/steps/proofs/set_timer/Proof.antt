@@ -4,7 +4,7 @@ use Rattle.steps.proofs.set_timer.Tie as tie
 use Rattle.steps.proofs.set_timer.Reads as reads
 use Rattle.steps.proofs.set_timer.Lts as lts
 use Rattle.steps.proofs.with_timers.Reads as with-timers-reads
-use Rattle.timers.proofs.Timers.set.Reads as set-reads
+use Rattle.link_timers.proofs.Timers.set.Reads as set-reads
 
 -- src/lib.rt:80:9
 set-requires : tie.Need-set-requires

@@ -1,5 +1,5 @@
 use Rattle.rules.specs.System.{onlySets}
-use Rattle.output.specs.Views.{commandView}
+use Rattle.link_output.specs.Views.{commandView}
 use borrow.Author.Needs.{needs}
 use Rattle.steps.proofs.sets.Statement.{statement}
 use Rattle.steps.proofs.sets.Tie as tie

@@ -1,6 +1,6 @@
 use borrow.Author.Tests.{not-true, not-false}
 use mathlib.Core.Path.{sym, _∙_}
-use Rattle.inner.specs.Views.{rulesOf}
+use Rattle.link_inner.specs.Views.{rulesOf}
 use Rattle.steps.proofs.Actions.{timeout-unset, timeout-refused, timeout-told, timeout-ignored, timers-laid, timeout-goes}
 use borrow.Author.Needs.{needs}
 use Rattle.steps.proofs.timeout.Statement.{statement}

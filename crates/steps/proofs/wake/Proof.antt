@@ -1,7 +1,7 @@
 use borrow.Author.Tests.{not-true, not-false}
 use mathlib.Core.Path.{sym, _∙_}
-use Rattle.inner.specs.Views.{rulesOf}
-use Rattle.link.specs.Views.{startLink}
+use Rattle.link_inner.specs.Views.{rulesOf}
+use Rattle.link_handlers.specs.Views.{startLink}
 use Rattle.steps.proofs.Actions.{wake-refused, wake-told, wake-goes}
 use borrow.Author.Needs.{needs}
 use Rattle.steps.proofs.wake.Statement.{statement}

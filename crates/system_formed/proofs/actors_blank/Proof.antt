@@ -9,7 +9,7 @@ use borrow.Author.Tests.{not-true, not-false}
 use Rattle.lists.specs.Lists.{all}
 use Rattle.lists.proofs.Places.{length-mapped}
 use Rattle.lists.proofs.Walks.{walk-on, walk-fails, walk-ends, take-whole}
-use Rattle.actor.specs.Views.{blankActor}
+use Rattle.sys_actor.specs.Views.{blankActor}
 use Rattle.system_formed.proofs.Outside.{no-actor}
 use Rattle.system_formed.proofs.actors_blank.Statement.{statement}
 use Rattle.system_formed.proofs.actors_blank.Tie as tie

@@ -9,7 +9,7 @@ use borrow.Author.Tests.{not-true, not-false}
 use Rattle.lists.specs.Lists.{all}
 use Rattle.lists.proofs.Places.{length-mapped}
 use Rattle.lists.proofs.Walks.{walk-on, walk-fails, walk-ends}
-use Rattle.actor.specs.Views.{actorFine}
+use Rattle.sys_actor.specs.Views.{actorFine}
 use Rattle.system_formed.proofs.Outside.{no-actor}
 use Rattle.system_formed.proofs.actors_ok.Statement.{statement}
 use Rattle.system_formed.proofs.actors_ok.Tie as tie

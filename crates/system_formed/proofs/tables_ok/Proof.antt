@@ -9,7 +9,7 @@ use borrow.Author.Tests.{not-true, not-false}
 use Rattle.lists.specs.Lists.{all}
 use Rattle.lists.proofs.Places.{length-mapped}
 use Rattle.lists.proofs.Walks.{walk-on, walk-fails, walk-ends}
-use Rattle.inner.specs.Views.{tableOk}
+use Rattle.link_inner.specs.Views.{tableOk}
 use Rattle.system_formed.proofs.Outside.{no-table}
 use Rattle.system_formed.proofs.tables_ok.Statement.{statement}
 use Rattle.system_formed.proofs.tables_ok.Tie as tie

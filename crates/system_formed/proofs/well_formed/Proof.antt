@@ -5,7 +5,7 @@ use mathlib.Core.Bool.{and-true}
 use borrow.Author.Tests.{le-leb, lt-leb, not-true, not-false}
 use borrow.Author.Needs.{needs}
 use Rattle.lists.specs.Lists.{every}
-use Rattle.actor.proofs.Laws.{refuses, tells}
+use Rattle.sys_actor.proofs.Laws.{refuses, tells}
 use Rattle.system.specs.Views.{systemFine}
 use Rattle.system.proofs.Types.{system-says}
 use Rattle.system.proofs.Laws.{fine-laid, fine-tests}

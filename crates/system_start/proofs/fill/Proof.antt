@@ -8,7 +8,7 @@ use mathlib.Core.Path.{_≡_, sym, subst, _∙_}
 use lib.ListN.{length}
 use borrow.Author.Tests.{not-true, not-false}
 use Rattle.lists.proofs.Places.{length-mapped}
-use Rattle.network.specs.Views.{zeroEntry}
+use Rattle.net_network.specs.Views.{zeroEntry}
 use Rattle.system_start.proofs.Sends.{Filling, fill-begins, fill-stops, fill-goes, fill-ends}
 use Rattle.system_start.proofs.fill.Statement.{statement}
 use Rattle.system_start.proofs.fill.Tie as tie

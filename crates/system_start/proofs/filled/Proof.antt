@@ -2,7 +2,7 @@
 -- Assumes nothing.
 use mathlib.Core.Path.{refl, sym, subst, _∙_}
 use borrow.Author.Needs.{needs}
-use Rattle.network.specs.Views.{NetReady}
+use Rattle.net_network.specs.Views.{NetReady}
 use Rattle.system_start.proofs.Sends.{empty-ready, empty-sent}
 use Rattle.system_start.proofs.filled.Statement.{statement}
 use Rattle.system_start.proofs.filled.Tie as tie

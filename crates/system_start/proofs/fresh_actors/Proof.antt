@@ -8,7 +8,7 @@ use mathlib.Core.List.{[]}
 use lib.ListN.{length, replicate}
 use Rattle.lists.specs.Lists.{pad}
 use Rattle.rules.specs.System.{unstarted}
-use Rattle.actor.specs.Views.{actorAs, zeroActor}
+use Rattle.sys_actor.specs.Views.{actorAs, zeroActor}
 use Rattle.system_start.proofs.First.{repeated-on}
 use Rattle.system_start.proofs.fresh_actors.Statement.{statement}
 use Rattle.system_start.proofs.fresh_actors.Tie as tie

@@ -10,7 +10,7 @@ use Rattle.lists.specs.Lists.{all}
 use Rattle.lists.proofs.Places.{length-mapped}
 use Rattle.lists.proofs.Walks.{walk-on, walk-fails, walk-ends}
 use Rattle.rules.specs.WellFormed.{sourceKnown}
-use Rattle.network.specs.Views.{zeroEntry}
+use Rattle.net_network.specs.Views.{zeroEntry}
 use Rattle.system_start.proofs.sources_known.Statement.{statement}
 use Rattle.system_start.proofs.sources_known.Tie as tie
 

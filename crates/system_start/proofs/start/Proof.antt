@@ -3,7 +3,7 @@
 use mathlib.Core.Path.{sym, ap, _∙_}
 use borrow.Author.Tests.{not-true, not-false}
 use borrow.Author.Needs.{needs}
-use Rattle.types.specs.Answers.{answerOf}
+use Rattle.answers.specs.Answers.{answerOf}
 use Rattle.rules.specs.Start.{blank}
 use Rattle.system.specs.Views.{systemOf}
 use Rattle.system_parts.specs.Views.{answeredOf}

@@ -1,6 +1,6 @@
 use mathlib.Core.Path.{sym, ap, _∙_}
 use borrow.Author.Tests.{not-true, not-false}
-use Rattle.types.specs.Answers.{answerOf}
+use Rattle.answers.specs.Answers.{answerOf}
 use Rattle.system_parts.specs.Views.{answeredOf}
 use Rattle.system_step.proofs.Laws.{fails, passes, fine-ready}
 use borrow.Author.Needs.{needs}

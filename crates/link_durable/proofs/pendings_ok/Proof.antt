@@ -1,0 +1,71 @@
+use borrow.Author.Needs.{needs}
+use native.Mathlib.Omega.{arith}
+use Prim.Native.Nat.{_≤_, _-_}
+use mathlib.Core.Path.{_≡_, refl, sym, _∙_}
+use lib.ListN.{length, take, drop}
+use borrow.Author.Tests.{not-true, not-false}
+use Rattle.lists.specs.Lists.{all}
+use Rattle.lists.proofs.Places.{length-mapped}
+use Rattle.lists.proofs.Walks.{walk-on, walk-fails, walk-ends}
+use Rattle.rules.specs.WellFormed.{pendingOk}
+use Rattle.link_durable.specs.Views.{zeroPending}
+use Rattle.link_durable.proofs.pendings_ok.Statement.{statement}
+use Rattle.link_durable.proofs.pendings_ok.Tie as tie
+
+abbrev Inv-loop : tie.InvT-loop
+Inv-loop next used records i₀ i = (i ≤ used) × (all (pendingOk next) (drop i (take used records)) ≡ all (pendingOk next) (take used records))
+
+abbrev μ-loop : tie.MeasureT-loop
+μ-loop next used records i₀ i = used - i
+
+loop-holds : tie.Need-loop-holds Inv-loop μ-loop
+loop-holds c = (search needs, refl)
+
+mul-here : tie.Need-mul-here Inv-loop μ-loop
+mul-here c = search needs
+
+array-copy-out-here : tie.Need-array-copy-out-here Inv-loop μ-loop
+array-copy-out-here c = search needs
+
+pending-ok-requires : tie.Need-pending-ok-requires Inv-loop μ-loop
+pending-ok-requires c κs = search needs
+
+returns : tie.Need-returns Inv-loop μ-loop
+returns c =
+    let a = c .before .before .before .before .before .before .args in let l = c .before .before .before .before .loop in
+    let n : length (a .p .records) ≡ 32 = search (needs, length-mapped) in
+    walk-fails (pendingOk (a .next)) (a .p .records) (a .p .used) zeroPending (omega arith) (l .i) _ (search needs) (sym (c .before .pending-ok .ensures) ∙ not-true (c .before .pending-ok .result) (c .if1 .taken)) (l .inv .1)
+
+add-i : tie.Need-add-i Inv-loop μ-loop
+add-i c = search needs
+
+loop-less : tie.Need-loop-less Inv-loop μ-loop
+loop-less c = search needs
+
+loop-again : tie.Need-loop-again Inv-loop μ-loop
+loop-again c =
+    let a = c .before .before .before .before .before .before .args in let l = c .before .before .before .before .loop in
+    let n : length (a .p .records) ≡ 32 = search (needs, length-mapped) in
+    (search needs, walk-on (pendingOk (a .next)) (a .p .records) (a .p .used) zeroPending (omega arith) (l .i) _ (search needs) (sym (c .before .pending-ok .ensures) ∙ not-false (c .before .pending-ok .result) (c .if1 .left)) (l .inv .1))
+
+returns-2 : tie.Need-returns-2 Inv-loop μ-loop
+returns-2 c =
+    let a = c .before .before .before .args in let l = c .before .loop in
+    let n : length (a .p .records) ≡ 32 = search (needs, length-mapped) in
+    walk-ends (pendingOk (a .next)) (a .p .records) (a .p .used) zeroPending (omega arith) (l .i) _ (search needs) (l .inv .1)
+
+pub pendings-ok-spec : {M : Type 1} → statement M
+pendings-ok-spec =
+    tie.close
+    (tie.spec
+    Inv-loop
+    μ-loop
+    loop-holds
+    mul-here
+    array-copy-out-here
+    pending-ok-requires
+    returns
+    add-i
+    loop-less
+    loop-again
+    returns-2)

@@ -1,0 +1,13 @@
+-- No second answer fits what is promised of an output.
+-- Assumes nothing.
+use mathlib.Core.Path.{_≡_}
+use Rattle.lists.proofs.Single.{one-answer}
+use Rattle.rules.specs.Inner.{nobody}
+use Rattle.link_inner.specs.declared.Reaction.{Reaction}
+use Rattle.link_durable.specs.declared.Durable.{Durable}
+use Rattle.link_output.specs.declared.Commands.{Commands}
+use Rattle.link_output.specs.declared.Output.{Output}
+use Rattle.link_output.specs.Views.{Outputs}
+
+pub one-output : (d : Durable) (cs : Commands) (r : Reaction) (x y : Output) → Outputs d cs r x → Outputs d cs r y → x ≡ y
+one-output d cs r x y h k = one-answer nobody _ h k

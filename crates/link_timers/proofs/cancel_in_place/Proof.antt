@@ -1,0 +1,21 @@
+-- The walk of `InPlace.antt` at the by-value function `Timers::cancel`.
+use contract.Running.{givenOf, tables, tablesOf}
+use denote.Triple.Spec.{tripleOf}
+use denote.Triple.Table.{entered, cited}
+use Rattle.link_timers.specs.Views.{cancelOf}
+use Rattle.link_timers.proofs.InPlace.{Core, meets}
+use Rattle.link_timers.proofs.Timers.cancel.Symbol as core-def
+use Rattle.link_timers.proofs.Timers.cancel.Symbol.{name as #core}
+use Rattle.link_timers.proofs.Timers.cancel.Met as core-thm
+use Rattle.link_timers.proofs.cancel_in_place.Key.{name as #f}
+use Rattle.link_timers.proofs.cancel_in_place as f
+use Rattle.link_timers.proofs.cancel_in_place.Statement as stated
+use Rattle.link_timers.proofs.cancel_in_place.Code as code
+
+pub cancel-in-place-spec : {M : Type 1} → stated.statement M
+unfolding code.routine tablesOf
+cancel-in-place-spec 𝓤 H 𝓜 𝓖 𝓡 =
+    entered 𝓤 H (tripleOf 𝓤 H (𝓖 .A) f.signature (f.spec 𝓤 H (𝓖 .A) (𝓜 .mem) (𝓡 .run)))
+    (tables 𝓤 H 𝓜 𝓡 code.env .C) (tables 𝓤 H 𝓜 𝓡 code.env .Λ) #f code.function (code.unfolded 𝓤 H 𝓜 𝓡)
+    (meets 𝓤 H (𝓖 .A) (givenOf 𝓤 H 𝓜 𝓖) cancelOf #core (tablesOf 𝓤 H 𝓜 (tables 𝓤 H 𝓜 𝓡 code.env))
+    (cited 𝓤 H (Core 𝓤 H (𝓖 .A) cancelOf) 𝓜 𝓡 code.env #core core-def.routine code.calls-timers·Timers·cancel (core-thm.met 𝓤 H 𝓜 𝓖 𝓡)))

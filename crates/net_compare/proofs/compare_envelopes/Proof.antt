@@ -1,0 +1,25 @@
+use Rattle.types.proofs.Laws.{envelope-split}
+use borrow.Author.Needs.{needs}
+use Rattle.net_compare.proofs.compare_envelopes.Statement.{statement}
+use Rattle.net_compare.proofs.compare_envelopes.Tie as tie
+use Rattle.net_compare.proofs.compare_envelopes.Reads as reads
+use Rattle.net_compare.proofs.compare_envelopes.Lts as lts
+use Rattle.net_compare.proofs.and_then.Reads as and-then-reads
+use Rattle.net_compare.proofs.compare_flows.Reads as compare-flows-reads
+use Rattle.net_compare.proofs.compare_messages.Reads as compare-messages-reads
+
+compare-flows-requires : tie.Need-compare-flows-requires
+compare-flows-requires c κs = search needs
+
+compare-messages-requires : tie.Need-compare-messages-requires
+compare-messages-requires c κs = search needs
+
+and-then-requires : tie.Need-and-then-requires
+and-then-requires c κs = search needs
+
+returns : tie.Need-returns
+returns c = cc (envelope-split (c .before .before .before .args .a) (c .before .before .before .args .b))
+
+pub compare-envelopes-spec : {M : Type 1} → statement M
+compare-envelopes-spec =
+    tie.close (tie.spec compare-flows-requires compare-messages-requires and-then-requires returns)

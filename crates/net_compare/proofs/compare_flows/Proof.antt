@@ -1,0 +1,47 @@
+use Rattle.types.specs.Order.{cmpFlow}
+use Rattle.types.proofs.Laws.{andThen-equal}
+use borrow.Author.Needs.{needs}
+use Rattle.net_compare.proofs.compare_flows.Statement.{statement}
+use Rattle.net_compare.proofs.compare_flows.Tie as tie
+use Rattle.net_compare.proofs.compare_flows.Reads as reads
+use Rattle.net_compare.proofs.compare_flows.Lts as lts
+use Rattle.net_compare.proofs.and_then.Reads as and-then-reads
+use Rattle.net_compare.proofs.compare_numbers.Reads as compare-numbers-reads
+
+cast-compare-numbers : tie.Need-cast-compare-numbers
+cast-compare-numbers c = search needs
+
+cast-compare-numbers-2 : tie.Need-cast-compare-numbers-2
+cast-compare-numbers-2 c = search needs
+
+compare-numbers-requires : tie.Need-compare-numbers-requires
+compare-numbers-requires c κs = search needs
+
+cast-compare-numbers-3 : tie.Need-cast-compare-numbers-3
+cast-compare-numbers-3 c = search needs
+
+cast-compare-numbers-4 : tie.Need-cast-compare-numbers-4
+cast-compare-numbers-4 c = search needs
+
+compare-numbers-requires-2 : tie.Need-compare-numbers-requires-2
+compare-numbers-requires-2 c κs = search needs
+
+and-then-requires : tie.Need-and-then-requires
+and-then-requires c κs = search needs
+
+returns : tie.Need-returns
+unfolding cmpFlow
+returns c = simp andThen-equal (cc)
+
+pub compare-flows-spec : {M : Type 1} → statement M
+compare-flows-spec =
+    tie.close
+    (tie.spec
+    cast-compare-numbers
+    cast-compare-numbers-2
+    compare-numbers-requires
+    cast-compare-numbers-3
+    cast-compare-numbers-4
+    compare-numbers-requires-2
+    and-then-requires
+    returns)

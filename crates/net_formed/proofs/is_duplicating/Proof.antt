@@ -1,0 +1,31 @@
+-- `is_duplicating` meets its contract. Each arm knows the kind.
+-- Assumes nothing.
+use borrow.Author.Needs.{needs}
+use Rattle.rules.specs.Network.{isDuplicating}
+use Rattle.net_formed.proofs.is_duplicating.Statement.{statement}
+use Rattle.net_formed.proofs.is_duplicating.Tie as tie
+
+enum-told : tie.Need-enum-told
+enum-told c = search needs
+
+enum-told-2 : tie.Need-enum-told-2
+enum-told-2 c = search needs
+
+enum-told-3 : tie.Need-enum-told-3
+enum-told-3 c = search needs
+
+returns : tie.Need-returns
+unfolding isDuplicating
+returns c = rw (c .enum-told .given .1)
+
+returns-2 : tie.Need-returns-2
+unfolding isDuplicating
+returns-2 c = rw (c .enum-told2 .given .1)
+
+returns-3 : tie.Need-returns-3
+unfolding isDuplicating
+returns-3 c = rw (c .enum-told3 .given .1)
+
+pub is-duplicating-spec : {M : Type 1} → statement M
+is-duplicating-spec =
+    tie.close (tie.spec enum-told enum-told-2 enum-told-3 returns returns-2 returns-3)

@@ -1,0 +1,112 @@
+-- Networks that are ready for a change: a well-formed one is, and a change of a ready one gives a ready one.
+-- Assumes nothing.
+use Prim.Native.Nat.{ℕ, _-_, _≤_}
+use native.Mathlib.Omega.{arith}
+use mathlib.Core.Path.{_≡_, refl, sym, ap}
+use mathlib.Core.Logic.{⊎-elim}
+use mathlib.Core.Bool.{Bool, true, false}
+use mathlib.Core.List.{List·Memᴰ·not-nil, List·Memᴰ·eq-of-singleton}
+use lib.ListN.{length, take}
+use lib.Seq.{take-append-seam}
+use lib.Dec.{leb}
+use borrow.Author.Tests.{eqb-true, leb-true, le-leb}
+use Rattle.lists.specs.Lists.{_∈_, choose, all, chain, pad}
+use Rattle.lists.proofs.Members.{and-both, all-in, all-make, cut-in, in-choose, cut-length}
+use Rattle.lists.proofs.Chains.{chain-is, is-chain, place-chain, cut-chain}
+use Rattle.types.specs.declared.Envelope.{Envelope}
+use Rattle.types.specs.declared.Entry.{Entry}
+use Rattle.types.specs.declared.Kind.{Kind}
+use Rattle.types.specs.declared.Kind.the-variants.{Ordered, UnorderedDuplicating, UnorderedNonDuplicating}
+use Rattle.types.specs.declared.LastMessage.the-variants.{Delivered}
+use Rattle.types.specs.Order.{same}
+use Rattle.rules.specs.Outcome.{done, guard, base}
+use Rattle.rules.specs.Network.{Net, put, sending, fits, send, lowered, fewer, remove, dropping, delivering, isDuplicating, onDeliver, onDrop}
+use Rattle.rules.specs.WellFormed.{countOk, inOrder, netOk}
+use Rattle.rules.proofs.FormedNetwork.{net-is, net-places, net-cuts, fewer-length}
+use Rattle.net_network.specs.declared.Network.{Network}
+use Rattle.net_network.specs.Views.{zeroEntry, netView, networkOf, NetLaid, NetReady, sentOf}
+use Rattle.net_network.proofs.Changes.{used-is}
+
+-- ---- a well-formed network
+count-room : (k : Kind) (c : ℕ) → countOk 65535 k c ≡ true → leb c 65535 ≡ true
+unfolding countOk
+count-room Ordered c h = let z = eqb-true c 1 h in le-leb c 65535 (omega arith)
+count-room UnorderedDuplicating c h = let z = eqb-true c 1 h in le-leb c 65535 (omega arith)
+count-room UnorderedNonDuplicating c h = and-both (leb 1 c) _ h .1
+
+pub ready-of-ok : (k : ℕ) (n : Network) → NetLaid n → netOk (base .room) k (netView n) ≡ true → NetReady n
+ready-of-ok k n laid h =
+    let f = net-is (base .room) k (netView n) h in
+    record { laid = laid; order = is-chain _ _ (f .order); counts = all-make _ _ (λ x m. count-room (n .kind) (x .count) (f .counts x m)) }
+
+-- ---- the struct of a network
+module _ (m : Net) (few : length (m .entries) ≤ 128) where
+  seen : take (length (m .entries)) (pad 128 zeroEntry (m .entries)) ≡ m .entries
+  unfolding pad
+  seen = take-append-seam (m .entries) _
+
+  pub viewed : netView (networkOf m) ≡ m
+  viewed = let s = seen in λ i. record { kind = m .kind; entries = s i; last = m .last }
+
+  pub laid-of : NetLaid (networkOf m)
+  laid-of = record { fit = few; rest = ap (pad 128 zeroEntry) (sym seen) }
+
+-- The same facts of the rules' network.
+pub record Orderly (m : Net) : Type 0 where
+  pub few : length (m .entries) ≤ 128
+  pub order : chain (inOrder (m .kind)) (m .entries) ≡ true
+  pub counts : all (λ x. leb (x .count) 65535) (m .entries) ≡ true
+
+pub orderly-of : (n : Network) → NetReady n → Orderly (netView n)
+orderly-of n r = let v = used-is n (r .laid) in let f = r .laid .fit in record { few = omega arith; order = r .order; counts = r .counts }
+
+pub ready-of : (m : Net) → Orderly m → NetReady (networkOf m)
+ready-of m o = let s = seen m (o .few) in record { laid = laid-of m (o .few); order = rw s (o .order); counts = rw s (o .counts) }
+
+-- ---- the changes
+lowered-room : (y x : Entry) → x ∈ fewer y → leb (y .count) 65535 ≡ true → leb (x .count) 65535 ≡ true
+unfolding fewer lowered
+lowered-room y x i h = ⊎-elim (λ t. absurd (List·Memᴰ·not-nil (t .1))) (λ t. let w : x ≡ lowered y = List·Memᴰ·eq-of-singleton (t .1) in let z = leb-true (y .count) 65535 h in rw w (le-leb (y .count - 1) 65535 (omega arith))) (in-choose _ _ _ i)
+
+module _ (m : Net) (o : Orderly m) (e : Envelope) where
+  sends : fits (base .room) (sending e m) ≡ true → Orderly (sending e m)
+  unfolding fits sending put
+  sends h = let z = and-both _ _ h in record {
+    few = leb-true _ _ (z .0);
+    order = is-chain _ _ (place-chain (inOrder (m .kind)) _ _ _ _ (net-places (m .kind) e) (m .entries) (chain-is _ _ (o .order)));
+    counts = z .1;
+  }
+
+  drops : Orderly (dropping e m)
+  unfolding dropping remove
+  drops = record {
+    few = let z = cut-length (λ (x : Entry). same e (x .envelope)) fewer fewer-length (m .entries) in let y = o .few in omega arith;
+    order = is-chain _ _ (cut-chain (inOrder (m .kind)) _ _ (net-cuts (m .kind) _) (m .entries) (chain-is _ _ (o .order)));
+    counts = all-make _ _ (λ x i. ⊎-elim (all-in _ _ (o .counts) x) (λ q. lowered-room (q .0) x (q .2) (all-in _ _ (o .counts) (q .0) (q .1))) (cut-in _ _ (m .entries) x i));
+  }
+
+  delivers : Orderly (delivering e m)
+  unfolding delivering choose
+  delivers = go (isDuplicating (m .kind))
+    where
+      go : (b : Bool) → Orderly (choose b (record { kind = m .kind; entries = m .entries; last = Delivered e }) (dropping e m))
+      go true = record { few = o .few; order = o .order; counts = o .counts }
+      go false = drops
+
+module _ (n : Network) (r : NetReady n) (e : Envelope) where
+  kept : (b : Bool) (k : ℕ) (m : Net) → (b ≡ true → Orderly m) → NetReady (sentOf n (guard b k (done m)) .network)
+  unfolding guard
+  kept true k m f = ready-of m (f refl)
+  kept false k m f = r
+
+  pub send-ready : NetReady (sentOf n (send (base .room) e (netView n)) .network)
+  unfolding send
+  send-ready = kept _ 8 (sending e (netView n)) (sends (netView n) (orderly-of n r) e)
+
+  pub deliver-ready : NetReady (sentOf n (onDeliver e (netView n)) .network)
+  unfolding onDeliver
+  deliver-ready = kept _ 3 (delivering e (netView n)) (λ _. delivers (netView n) (orderly-of n r) e)
+
+  pub drop-ready : NetReady (sentOf n (onDrop e (netView n)) .network)
+  unfolding onDrop
+  drop-ready = kept _ 3 (dropping e (netView n)) (λ _. drops (netView n) (orderly-of n r) e)

@@ -1,0 +1,52 @@
+use native.Mathlib.Omega.{arith}
+use Rattle.net_network.proofs.Changes.{copies-few, count-full, count-done}
+use borrow.Author.Needs.{needs}
+use Rattle.net_network.proofs.count_up.Statement.{statement}
+use Rattle.net_network.proofs.count_up.Tie as tie
+
+copies-requires : tie.Need-copies-requires
+copies-requires c κs = search needs
+
+mul-x : tie.Need-mul-x
+mul-x c = search needs
+
+array-copy-out-x : tie.Need-array-copy-out-x
+array-copy-out-x c = search needs
+
+sub-if1 : tie.Need-sub-if1
+sub-if1 c = omega (arith, copies-few (c .before .before .before .args .n .kind), c .before .before .copies .ensures)
+
+returns : tie.Need-returns
+returns c =
+    let k = c .before .before .before .before in
+    let s = k .before in
+    count-full (s .args .n) (s .pre .0) (s .args .at) (s .pre .1) (omega (arith, copies-few (s .args .n .kind), k .copies .ensures, c .if1 .taken))
+
+add-t13 : tie.Need-add-t13
+add-t13 c = search needs
+
+mul-es : tie.Need-mul-es
+mul-es c = search needs
+
+array-set-from-es : tie.Need-array-set-from-es
+array-set-from-es c = search needs
+
+returns-2 : tie.Need-returns-2
+returns-2 c =
+    let k = c .before .before .before .before .before .before in
+    let s = k .before in
+    rw (k .copies .ensures) (count-done (s .args .n) (s .pre .0) (s .args .at) (s .pre .1) (omega (arith, copies-few (s .args .n .kind), k .copies .ensures, c .before .before .if1 .left)))
+
+pub count-up-spec : {M : Type 1} → statement M
+count-up-spec =
+    tie.close
+    (tie.spec
+    copies-requires
+    mul-x
+    array-copy-out-x
+    sub-if1
+    returns
+    add-t13
+    mul-es
+    array-set-from-es
+    returns-2)

@@ -1,0 +1,21 @@
+use Rattle.net_network.proofs.Changes.{insert-full, insert-done}
+use borrow.Author.Needs.{needs}
+use Rattle.net_network.proofs.insert_entry.Statement.{statement}
+use Rattle.net_network.proofs.insert_entry.Tie as tie
+
+returns : tie.Need-returns
+returns c = insert-full (c .before .args .n) (c .before .pre .0) (c .before .args .at) (c .before .args .e) (c .before .pre .1) (c .if1 .taken)
+
+insert-at-requires : tie.Need-insert-at-requires
+insert-at-requires c κs = search needs
+
+add-t13 : tie.Need-add-t13
+add-t13 c = search needs
+
+returns-2 : tie.Need-returns-2
+returns-2 c =
+    let s = c .before .before .before in
+    insert-done (s .args .n) (s .pre .0) (s .args .at) (s .args .e) (s .pre .1) (c .before .before .if1 .left) (c .insert-at .result) (c .insert-at .ensures)
+
+pub insert-entry-spec : {M : Type 1} → statement M
+insert-entry-spec = tie.close (tie.spec returns insert-at-requires add-t13 returns-2)

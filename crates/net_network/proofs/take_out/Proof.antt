@@ -1,0 +1,57 @@
+use mathlib.Core.Path.{ap, _∙_}
+use Rattle.lists.specs.Lists.{shrink}
+use Rattle.net_network.proofs.Changes.{take-last, take-more}
+use borrow.Author.Needs.{needs}
+use Rattle.net_network.proofs.take_out.Statement.{statement}
+use Rattle.net_network.proofs.take_out.Tie as tie
+
+mul-x : tie.Need-mul-x
+mul-x c = search needs
+
+array-copy-out-x : tie.Need-array-copy-out-x
+array-copy-out-x c = search needs
+
+zero-entry-requires : tie.Need-zero-entry-requires
+zero-entry-requires c κs = search needs
+
+remove-at-requires : tie.Need-remove-at-requires
+remove-at-requires c κs = search needs
+
+sub-t18 : tie.Need-sub-t18
+sub-t18 c = search needs
+
+returns : tie.Need-returns
+returns c =
+    let s = c .before .before .before .before .before .before in
+    let n = s .args .n in
+    take-last n (s .pre .0 .laid) (s .args .at) (s .pre .1) (c .before .before .if1 .taken) (c .remove-at .result)
+    (c .remove-at .ensures ∙ ap (λ z. shrink (n .used) (s .args .at) z (n .entries)) (c .before .zero-entry .ensures))
+
+sub-t20 : tie.Need-sub-t20
+sub-t20 c = search needs
+
+mul-es : tie.Need-mul-es
+mul-es c = search needs
+
+array-set-from-es : tie.Need-array-set-from-es
+array-set-from-es c = search needs
+
+returns-2 : tie.Need-returns-2
+returns-2 c =
+    let s = c .before .before .before .before .before .before in
+    take-more (s .args .n) (s .pre .0 .laid) (s .args .at) (s .pre .1) (c .before .before .if1 .left)
+
+pub take-out-spec : {M : Type 1} → statement M
+take-out-spec =
+    tie.close
+    (tie.spec
+    mul-x
+    array-copy-out-x
+    zero-entry-requires
+    remove-at-requires
+    sub-t18
+    returns
+    sub-t20
+    mul-es
+    array-set-from-es
+    returns-2)

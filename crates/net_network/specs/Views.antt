@@ -1,0 +1,43 @@
+-- The rules' network that the struct holds, the struct that holds one, and the answer struct of an outcome.
+-- Assumes nothing.
+use Prim.Native.Nat.{_≤_}
+use mathlib.Core.Path.{_≡_}
+use mathlib.Core.Bool.{true}
+use mathlib.Core.List.{List}
+use lib.ListN.{length, take}
+use lib.Dec.{leb}
+use Rattle.lists.specs.Lists.{all, chain, pad}
+use Rattle.types.specs.declared.Entry.{Entry}
+use Rattle.answers.specs.Answers.{answerOf}
+use Rattle.rules.specs.Outcome.{Outcome, done, refused}
+use Rattle.rules.specs.Network.{Net}
+use Rattle.rules.specs.WellFormed.{inOrder}
+pub use Rattle.net_entries.specs.Search.{zeroEntry}
+use Rattle.net_network.specs.declared.Network.{Network}
+use Rattle.net_network.specs.declared.Sent.{Sent}
+
+-- The used entries.
+abbrev pub entryList : Network → List Entry
+entryList n = take (n .used) (n .entries)
+
+abbrev pub netView : Network → Net
+netView n = record { kind = n .kind; entries = entryList n; last = n .last }
+
+abbrev pub networkOf : Net → Network
+networkOf m = record { kind = m .kind; entries = pad 128 zeroEntry (m .entries); used = length (m .entries); last = m .last }
+
+-- The count fits, and the unused places are zero.
+pub record NetLaid (n : Network) : Type 0 where
+  pub fit : n .used ≤ 128
+  pub rest : n .entries ≡ pad 128 zeroEntry (entryList n)
+
+-- What the changes of a network ask: it is laid out, in the order of its kind, and no count is past the room. A well-formed network is so.
+pub record NetReady (n : Network) : Type 0 where
+  pub laid : NetLaid n
+  pub order : chain (inOrder (n .kind)) (entryList n) ≡ true
+  pub counts : all (λ x. leb (x .count) 65535) (entryList n) ≡ true
+
+-- What an outcome leaves of the network n: a refusal hands it back.
+abbrev pub sentOf : Network → Outcome Net → Sent
+sentOf n (done m) = record { answer = answerOf 0; network = networkOf m }
+sentOf n (refused k) = record { answer = answerOf k; network = n }
