@@ -15,7 +15,7 @@ use Rattle.types.specs.declared.Id.{Id}
 use Rattle.types.specs.declared.Rule.{Rule}
 use Rattle.answers.specs.Answers.{answerOf}
 use Rattle.rules.specs.Outcome.{Outcome, done, refused, bind, guard}
-use Rattle.rules.specs.Timers.{network}
+use Rattle.types.specs.Capacities.{network}
 use Rattle.rules.specs.Network.{Net}
 use Rattle.answers.specs.declared.Refusal.{Refusal}
 use Rattle.answers.specs.declared.Refusal.the-variants.{Nothing, Because}

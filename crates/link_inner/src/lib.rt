@@ -213,8 +213,8 @@ fn command_ok(event: u8, c: RuleCommand) -> bool
     ensures { λ x. ⌜ x ≡ commandOk event c ⌝ }
 {
     match c {
-        RuleCommand::SetTimer(t) => t <= 30,
-        RuleCommand::CancelTimer(t) => t <= 30,
+        RuleCommand::SetTimer(t) => t < NETWORK,
+        RuleCommand::CancelTimer(t) => t < NETWORK,
         RuleCommand::Send(to_source, dst, echo, payload) => {
             if !source_ok(event, to_source, dst) {
                 return false;

@@ -17,14 +17,15 @@ use Rattle.types.specs.declared.RuleCommand.{RuleCommand}
 use Rattle.types.specs.declared.RuleCommand.the-variants as rule
 use Rattle.types.specs.declared.Storage.the-variants as storage
 use Rattle.rules.specs.Outcome.{done, refused, base}
-use Rattle.rules.specs.Timers.{network, setTimer}
+use Rattle.types.specs.Capacities.{network}
+use Rattle.rules.specs.Timers.{setTimer}
 use Rattle.rules.specs.Network.{Net, send}
 use Rattle.rules.specs.Inner.{zeroSlot, slotsOf}
 use Rattle.rules.specs.Link.{Durable, fresh, Send, Save, Sent, output}
 use Rattle.rules.specs.System.{Actor, Sys, withStorage, withMark}
 use Rattle.rules.specs.WellFormed.{sound, wellFormed}
 use Rattle.rules.specs.Start.{startable}
-use Rattle.rules.specs.Script.{version1}
+use Rattle.rules.specs.Script.{versions}
 use Rattle.rules.specs.Program.{decimal, replayed, replay}
 use Rattle.rules.specs.Sheet.{id, msg, ack, env, pending, ruleBy, ruleOf, net, live, sys, two, lastTakenIs, a, b}
 use Rattle.rules.proofs.Opened.{opened}
@@ -157,7 +158,7 @@ pub record Limits : Type 0 where
   pub nine : decimal 9 ≡ 57 ∷ []
   pub ten : decimal 10 ≡ 49 ∷ 48 ∷ []
   pub many : decimal 65307 ≡ 54 ∷ 53 ∷ 51 ∷ 48 ∷ 55 ∷ []
-  pub bad-0 : replay base version1 [] ≡ 98 ∷ 97 ∷ 100 ∷ 32 ∷ 48 ∷ 10 ∷ []
+  pub bad-0 : replay base versions [] ≡ 98 ∷ 97 ∷ 100 ∷ 32 ∷ 48 ∷ 10 ∷ []
 
 pub limits : Limits
 unfolding opened waits replayed replay
