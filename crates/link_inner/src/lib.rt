@@ -1,6 +1,7 @@
 // The inner actor: the look-up of a rule in its table, and the test of a table.
 use types::Id;
 use types::InnerCommand;
+use types::NETWORK;
 use types::Payload;
 use types::Rule;
 use types::RuleCommand;
