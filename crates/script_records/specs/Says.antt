@@ -2,13 +2,11 @@
 -- Assumes nothing.
 use Prim.Native.Nat.{ℕ}
 use mathlib.Core.List.{List, [], _∷_}
-use lib.Dec.{eqb}
 use Rattle.lists.specs.Lists.{choose}
 use Rattle.answers.specs.Answers.{answerNumber}
 use Rattle.answers.specs.declared.Answer.the-variants.{Done, Unreadable}
 use Rattle.types.specs.declared.Envelope.{Envelope}
 use Rattle.types.specs.declared.Rule.{Rule}
-use Rattle.layout.specs.Form.{Got, got, bad}
 use Rattle.layout.specs.Read.{Reading, read, badAt}
 use Rattle.rules.specs.Script.{Item, end, item}
 use Rattle.rules.specs.Script as script
@@ -26,35 +24,28 @@ use Rattle.script_records.specs.declared.ActionRead.the-variants as acti
 pub data Said (A : Type 0) : Type 0 where
   said : ℕ → List A → List ℕ → Said A
 
--- ---- what reading found: the value with the place after it, or 11 with the place of the first bad record
-module _ {A : Type 0} where
-  -- A record at the front of the bytes stands at their place 0.
-  abbrev pub gotSays : Got A → Said A
-  gotSays (got a n) = said (answerNumber Done) (a ∷ []) (n ∷ [])
-  gotSays bad = said (answerNumber Unreadable) [] (0 ∷ [])
-
-  abbrev pub readingSays : Reading A → Said A
-  readingSays (read a xs p) = said (answerNumber Done) (a ∷ []) (p ∷ [])
-  readingSays (badAt p) = said (answerNumber Unreadable) [] (p ∷ [])
+-- What reading found: the value with the place after it, or 11 with the place of the first bad record.
+abbrev pub readingSays : {A : Type 0} → Reading A → Said A
+readingSays (read a xs p) = said (answerNumber Done) (a ∷ []) (p ∷ [])
+readingSays (badAt p) = said (answerNumber Unreadable) [] (p ∷ [])
 
 -- ---- the answers
 abbrev pub headerSays : HeaderRead → Said script.Header
-headerSays (header.Found h n) = said 0 (record { kind = h .kind; actors = h .actors } ∷ []) (n ∷ [])
-headerSays header.Bad = said 11 [] (0 ∷ [])
+headerSays (header.Found h p) = said 0 (record { version = h .version; kind = h .kind; actors = h .actors } ∷ []) (p ∷ [])
+headerSays (header.Bad p) = said 11 [] (p ∷ [])
 
 abbrev pub countSays : CountRead → Said ℕ
-countSays (count.Found c n) = said 0 (c ∷ []) (n ∷ [])
-countSays count.Bad = said 11 [] (0 ∷ [])
+countSays (count.Found c p) = said 0 (c ∷ []) (p ∷ [])
+countSays (count.Bad p) = said 11 [] (p ∷ [])
 
--- A rule without bytes is bad.
 abbrev pub ruleSays : RuleRead → Said Rule
-ruleSays r = choose (eqb (r .size) 0) (said 11 [] (0 ∷ [])) (said 0 (r .rule ∷ []) (r .size ∷ []))
+ruleSays r = choose (r .found) (said 0 (r .rule ∷ []) (r .next ∷ [])) (said 11 [] (r .next ∷ []))
 
 abbrev pub envelopeSays : EnvelopeRead → Said Envelope
-envelopeSays (envelope.Found e n) = said 0 (e ∷ []) (n ∷ [])
-envelopeSays envelope.Bad = said 11 [] (0 ∷ [])
+envelopeSays (envelope.Found e p) = said 0 (e ∷ []) (p ∷ [])
+envelopeSays (envelope.Bad p) = said 11 [] (p ∷ [])
 
 abbrev pub actionSays : ActionRead → Said Item
-actionSays (action.Act a n) = said 0 (item a ∷ []) (n ∷ [])
-actionSays (action.End n) = said 0 (end ∷ []) (n ∷ [])
-actionSays action.Bad = said 11 [] (0 ∷ [])
+actionSays (action.Act a p) = said 0 (item a ∷ []) (p ∷ [])
+actionSays (action.End p) = said 0 (end ∷ []) (p ∷ [])
+actionSays (action.Bad p) = said 11 [] (p ∷ [])

@@ -1,7 +1,16 @@
-// The records of a script, each read from the front of a slice: a value with its size in bytes, or that it is bad.
+// The records of a script. Each is read at a place, as the script's format says: the answer is the value with the place after it, or the
+// place of the bad record.
+use script_bits::field;
+use script_bits::field8;
+use script_bits::field32;
+use script_bits::whole;
 use types::Action;
 use types::Envelope;
+use types::Format;
 use types::Id;
+use types::MOST_ACTORS;
+use types::MOST_COMMANDS;
+use types::MOST_RULES;
 use types::Message;
 use types::Number;
 use types::Payload;
@@ -9,371 +18,90 @@ use types::Rule;
 use types::RuleCommand;
 use types::Slot;
 ghost use mathlib.Core.Path.{_≡_};
-ghost use mathlib.Core.List.{[], _∷_};
+ghost use mathlib.Core.Bool.{true, false};
+ghost use mathlib.Core.List.{[]};
 ghost use Prim.Native.Nat.{_+_, _≤_, _<_};
 ghost use lib.ListN.{drop};
 ghost use lib.Dec.{leb, eqb};
-ghost use Rattle.lists.specs.Lists.{every};
-ghost use Rattle.layout.specs.Form.{filled, field, reached, follow, then, only, times, padded, recordOf};
+ghost use Rattle.lists.specs.Lists.{any};
+ghost use Rattle.types.specs.Capacities.{mostCommands};
+ghost use Rattle.layout.specs.Form.{filled, field, follow, then, only, times, wholeOf};
+ghost use Rattle.layout.specs.Read.{one};
 ghost use Rattle.rules.specs.Inner.{zeroSlot, slotsOf};
-ghost use Rattle.rules.specs.Script.{version1, headerForm, ruleCountForm, commandForm, ruleForm, envelopeCountForm, messageForm, envelopeForm, item, takeAction, unread};
-ghost use Rattle.script_records.specs.Views.{headerRead, countRead, zeroRule, ruleRead, envelopeRead, actionRead, actionSize};
-ghost use Rattle.script_records.specs.Says.{gotSays, headerSays, countSays, ruleSays, envelopeSays, actionSays};
+ghost use Rattle.rules.specs.Script.{version1, versions, formatOf, Fine, headerOk, headerForm, ruleCountForm, commandForm, ruleForm, envelopeCountForm, messageForm, envelopeForm, actionForm, unread};
+ghost use Rattle.script_records.specs.Views.{endingOf, headerRead, countRead, zeroRule, ruleRead, envelopeRead, actionRead, actionSize, messagePart, messageEnd, envelopePart, envelopeEnd, commandPart, commandEnd, commandsPart, ruleWith, actionPart, actionEnd, withEnvelope};
+ghost use Rattle.script_records.specs.Says.{readingSays, headerSays, countSays, ruleSays, envelopeSays, actionSays};
 
 pub struct Header {
+    pub version: u8,
     pub kind: u8,
     pub actors: u8,
 }
 
 pub enum HeaderRead {
     Found(Header, usize),
-    Bad,
+    Bad(usize),
 }
 
 // A count of rules or of envelopes.
 pub enum CountRead {
     Found(usize, usize),
-    Bad,
+    Bad(usize),
 }
 
-// An enum cannot hold the array of a rule. A bad rule is the zero rule with no bytes.
+// An enum cannot hold the array of a rule. A bad rule is the zero rule.
 pub struct RuleRead {
+    pub found: bool,
     pub rule: Rule,
-    pub size: usize,
+    pub next: usize,
 }
 
 pub enum EnvelopeRead {
     Found(Envelope, usize),
-    Bad,
+    Bad(usize),
 }
 
 pub enum ActionRead {
     Act(Action, usize),
     End(usize),
+    Bad(usize),
+}
+
+// Where a record ends, or that it is cut or badly padded.
+enum Ending {
+    At(usize),
     Bad,
 }
 
-// A part of a record, and the bit after it.
-struct MessagePart {
-    msg: Message,
-    end: usize,
+// A part of a record and the bit after it, or that nothing has such fields.
+enum MessagePart {
+    Found(Message, usize),
+    Stuck,
 }
 
-struct EnvelopePart {
-    envelope: Envelope,
-    end: usize,
+enum EnvelopePart {
+    Found(Envelope, usize),
+    Stuck,
 }
 
-struct CommandPart {
-    command: RuleCommand,
-    end: usize,
+enum CommandPart {
+    Found(RuleCommand, usize),
+    Stuck,
+}
+
+enum ActionPart {
+    Act(Action, usize),
+    End(usize),
+    Stuck,
 }
 
 struct CommandsPart {
-    commands: [Slot; 4],
+    found: bool,
+    commands: [Slot; MOST_COMMANDS],
     end: usize,
 }
 
-// The header's conditions, all of which are bad at its place.
-fn header_fits(version: u8, kind: u8, actors: u8, zero: u8) -> bool
-    ensures { λ r. ⌜ r ≡ every (eqb version 1 ∷ leb kind 2 ∷ leb 1 actors ∷ leb actors 8 ∷ eqb zero 0 ∷ []) ⌝ }
-{
-    if version != 1 {
-        return false;
-    }
-    if 2 < kind {
-        return false;
-    }
-    if actors < 1 {
-        return false;
-    }
-    if 8 < actors {
-        return false;
-    }
-    zero == 0
-}
-
-pub fn read_header(s: &[u8]) -> HeaderRead
-    ensures { λ r. ⌜ r ≡ headerRead (recordOf (headerForm version1) (now (s .entry))) ⌝ }
-    ensures says { λ r. ⌜ headerSays r ≡ gotSays (recordOf (headerForm version1) (now (s .entry))) ⌝ }
-{
-    let version = script_bits::field8(s, 0, 4);
-    let kind = script_bits::field8(s, 4, 2);
-    let actors = script_bits::field8(s, 6, 4);
-    let zero = script_bits::field8(s, 10, 6);
-    if header_fits(version, kind, actors, zero) {
-        if script_bits::whole(s, 16) {
-            return HeaderRead::Found(Header { kind, actors }, 2);
-        }
-        return HeaderRead::Bad;
-    }
-    HeaderRead::Bad
-}
-
-// A count of `width` bits, at most `most`.
-fn read_count(s: &[u8], width: usize, most: usize) -> CountRead
-    requires { ⌜ width ≤ 8 ⌝ }
-    ensures { λ r. ⌜ r ≡ countRead (recordOf (field width (λ c. only (leb c most) (filled c))) (now (s .entry))) ⌝ }
-{
-    let count = script_bits::field8(s, 0, width) as usize;
-    if count <= most {
-        if script_bits::whole(s, width) {
-            return CountRead::Found(count, (width + 7) / 8);
-        }
-        return CountRead::Bad;
-    }
-    CountRead::Bad
-}
-
-// How many rules a table has.
-pub fn read_rule_count(s: &[u8]) -> CountRead
-    ensures { λ r. ⌜ r ≡ countRead (recordOf ruleCountForm (now (s .entry))) ⌝ }
-    ensures says { λ r. ⌜ countSays r ≡ gotSays (recordOf ruleCountForm (now (s .entry))) ⌝ }
-{
-    read_count(s, 5, 16)
-}
-
-// How many envelopes are on the network at the start.
-pub fn read_envelope_count(s: &[u8]) -> CountRead
-    ensures { λ r. ⌜ r ≡ countRead (recordOf (envelopeCountForm version1) (now (s .entry))) ⌝ }
-    ensures says { λ r. ⌜ countSays r ≡ gotSays (recordOf (envelopeCountForm version1) (now (s .entry))) ⌝ }
-{
-    read_count(s, 8, 128)
-}
-
-fn command_part(s: &[u8], at: usize) -> CommandPart
-    requires { ⌜ at < 4096 ⌝ }
-    ensures { λ r. ⌜ (follow (now (s .entry)) commandForm at ≡ reached (r .command) (r .end)) × (r .end ≤ at + 44) ⌝ }
-{
-    let kind = script_bits::field8(s, at, 2);
-    if kind < 2 {
-        let timer = script_bits::field8(s, at + 2, 5);
-        if kind == 0 {
-            return CommandPart {
-                command: RuleCommand::SetTimer(timer),
-                end: at + 7,
-            };
-        }
-        return CommandPart {
-            command: RuleCommand::CancelTimer(timer),
-            end: at + 7,
-        };
-    }
-    if kind == 2 {
-        let source = script_bits::field8(s, at + 2, 1);
-        let dst = script_bits::field8(s, at + 3, 8);
-        let echo = script_bits::field8(s, at + 11, 1);
-        let payload = script_bits::field32(s, at + 12, 32);
-        return CommandPart {
-            command: RuleCommand::Send(source == 1, Id(dst), echo == 1, Payload(payload)),
-            end: at + 44,
-        };
-    }
-    let echo = script_bits::field8(s, at + 2, 1);
-    let value = script_bits::field32(s, at + 3, 32);
-    CommandPart {
-        command: RuleCommand::Save(echo == 1, value),
-        end: at + 35,
-    }
-}
-
-fn zero_slot() -> Slot
-    ensures { λ r. ⌜ r ≡ zeroSlot ⌝ }
-{
-    Slot {
-        command: RuleCommand::SetTimer(0),
-    }
-}
-
-fn commands_part(s: &[u8], at: usize, count: usize) -> CommandsPart
-    requires { ⌜ (at < 1024) × (count ≤ 4) ⌝ }
-    ensures { λ r. ⌜ (follow (now (s .entry)) (then (times count commandForm) (λ cs. filled (slotsOf cs))) at ≡ reached (r .commands) (r .end)) × (r .end ≤ at + 176) ⌝ }
-{
-    let mut commands = [zero_slot(); 4];
-    let mut end = at;
-    let mut i = 0;
-    while i < count {
-        let c = command_part(s, end);
-        let command = c.command;
-        commands[i] = Slot { command };
-        end = c.end;
-        i += 1;
-    }
-    CommandsPart { commands, end }
-}
-
-// The rule that stands in an unused place of a table.
-pub fn zero_rule() -> Rule
-    ensures { λ r. ⌜ r ≡ zeroRule ⌝ }
-{
-    let commands = [zero_slot(); 4];
-    Rule {
-        event: 0,
-        state: 0,
-        low: 0,
-        high: 0,
-        touched: false,
-        next: 0,
-        commands,
-        used: 0,
-    }
-}
-
-fn bad_rule() -> RuleRead
-    ensures { λ r. ⌜ r ≡ record { rule = zeroRule; size = 0 } ⌝ }
-{
-    let rule = zero_rule();
-    RuleRead { rule, size: 0 }
-}
-
-pub fn read_rule(s: &[u8]) -> RuleRead
-    ensures { λ r. ⌜ r ≡ ruleRead (recordOf ruleForm (now (s .entry))) ⌝ }
-    ensures says { λ r. ⌜ ruleSays r ≡ gotSays (recordOf ruleForm (now (s .entry))) ⌝ }
-{
-    let event = script_bits::field8(s, 0, 2);
-    let state = script_bits::field8(s, 2, 4);
-    let low = script_bits::field32(s, 6, 32);
-    let high = script_bits::field32(s, 38, 32);
-    let touched = script_bits::field8(s, 70, 1);
-    let next = script_bits::field8(s, 71, 4);
-    let count = script_bits::field8(s, 75, 3) as usize;
-    if 4 < count {
-        return bad_rule();
-    }
-    let cs = commands_part(s, 78, count);
-    let commands = cs.commands;
-    let end = cs.end;
-    if script_bits::whole(s, end) {
-        let rule = Rule {
-            event,
-            state,
-            low,
-            high,
-            touched: touched == 1,
-            next,
-            commands,
-            used: count,
-        };
-        return RuleRead {
-            rule,
-            size: (end + 7) / 8,
-        };
-    }
-    bad_rule()
-}
-
-fn message_part(s: &[u8], at: usize) -> MessagePart
-    requires { ⌜ at < 4096 ⌝ }
-    ensures { λ r. ⌜ (follow (now (s .entry)) (messageForm version1) at ≡ reached (r .msg) (r .end)) × (r .end ≤ at + 97) ⌝ }
-{
-    let tag = script_bits::field8(s, at, 1);
-    let number = script_bits::field(s, at + 1, 64);
-    if tag == 1 {
-        return MessagePart {
-            msg: Message::Ack(Number(number)),
-            end: at + 65,
-        };
-    }
-    let payload = script_bits::field32(s, at + 65, 32);
-    MessagePart {
-        msg: Message::Deliver(Number(number), Payload(payload)),
-        end: at + 97,
-    }
-}
-
-fn envelope_part(s: &[u8], at: usize) -> EnvelopePart
-    requires { ⌜ at < 1024 ⌝ }
-    ensures { λ r. ⌜ (follow (now (s .entry)) (envelopeForm version1) at ≡ reached (r .envelope) (r .end)) × (r .end ≤ at + 113) ⌝ }
-{
-    let src = script_bits::field8(s, at, 8);
-    let dst = script_bits::field8(s, at + 8, 8);
-    let m = message_part(s, at + 16);
-    let msg = m.msg;
-    EnvelopePart {
-        envelope: Envelope {
-            src: Id(src),
-            dst: Id(dst),
-            msg,
-        },
-        end: m.end,
-    }
-}
-
-pub fn read_envelope(s: &[u8]) -> EnvelopeRead
-    ensures { λ r. ⌜ r ≡ envelopeRead (recordOf (envelopeForm version1) (now (s .entry))) ⌝ }
-    ensures says { λ r. ⌜ envelopeSays r ≡ gotSays (recordOf (envelopeForm version1) (now (s .entry))) ⌝ }
-{
-    let e = envelope_part(s, 0);
-    let envelope = e.envelope;
-    let end = e.end;
-    if script_bits::whole(s, end) {
-        return EnvelopeRead::Found(envelope, (end + 7) / 8);
-    }
-    EnvelopeRead::Bad
-}
-
-// An action of `used` bits: its bytes are there, and its padding is zero.
-fn closed(s: &[u8], a: Action, used: usize) -> ActionRead
-    requires { ⌜ used < 4096 ⌝ }
-    ensures { λ r. ⌜ r ≡ actionRead (padded (now (s .entry)) (reached (item a) used)) ⌝ }
-{
-    if script_bits::whole(s, used) {
-        return ActionRead::Act(a, (used + 7) / 8);
-    }
-    ActionRead::Bad
-}
-
-// One action from the front of the script.
-pub fn take_action(s: &[u8]) -> ActionRead
-    ensures { λ r. ⌜ r ≡ actionRead (takeAction version1 (now (s .entry))) ⌝ }
-    ensures says { λ r. ⌜ actionSays r ≡ gotSays (takeAction version1 (now (s .entry))) ⌝ }
-{
-    let kind = script_bits::field8(s, 0, 3);
-    match kind {
-        0 => {
-            if script_bits::whole(s, 3) {
-                return ActionRead::End(1);
-            }
-            ActionRead::Bad
-        }
-        1 => {
-            let e = envelope_part(s, 3);
-            let envelope = e.envelope;
-            closed(s, Action::Deliver(envelope), e.end)
-        }
-        2 => {
-            let e = envelope_part(s, 3);
-            let envelope = e.envelope;
-            closed(s, Action::Drop(envelope), e.end)
-        }
-        3 => {
-            let id = script_bits::field8(s, 3, 8);
-            let timer = script_bits::field8(s, 11, 5);
-            closed(s, Action::Timeout(Id(id), timer), 16)
-        }
-        4 => {
-            let id = script_bits::field8(s, 3, 8);
-            closed(s, Action::Crash(Id(id)), 11)
-        }
-        5 => {
-            let id = script_bits::field8(s, 3, 8);
-            closed(s, Action::Recover(Id(id)), 11)
-        }
-        _ => ActionRead::Bad,
-    }
-}
-
-// How many bytes were taken; none of a bad record.
-fn size_of(t: ActionRead) -> usize
-    ensures { λ r. ⌜ r ≡ actionSize t ⌝ }
-{
-    match t {
-        ActionRead::Act(_, n) => n,
-        ActionRead::End(n) => n,
-        ActionRead::Bad => 0,
-    }
-}
-
+// ---- places
 // The same slice from the place `at` on. Past its end nothing is left.
 pub fn from(s: &[u8], at: usize) -> &[u8]
     ensures { λ r. ⌜ now r ≡ drop at (now (s .entry)) ⌝ }
@@ -386,11 +114,444 @@ pub fn from(s: &[u8], at: usize) -> &[u8]
     }
 }
 
-// The same script from the next record on; all of it where the record is bad.
-pub fn rest(s: &[u8]) -> &[u8]
-    ensures { λ r. ⌜ now r ≡ unread version1 (now (s .entry)) ⌝ }
+// The end of a record of `used` bits that begins at the place `at`.
+fn end_of(script: &[u8], at: usize, used: usize) -> Ending
+    requires { ⌜ used < 4096 ⌝ }
+    ensures { λ r. ⌜ r ≡ endingOf at (wholeOf (drop at (now (script .entry))) used) used ⌝ }
 {
-    let t = take_action(s);
-    let n = size_of(t);
+    if whole(from(script, at), used) {
+        return Ending::At(at + (used + 7) / 8);
+    }
+    Ending::Bad
+}
+
+// ---- versions
+fn version_1() -> Format
+    ensures { λ r. ⌜ r ≡ version1 ⌝ }
+{
+    Format {
+        version: 1,
+        event: 2,
+        command: 2,
+        count: 8,
+        tag: 1,
+        number: 64,
+        most: 128,
+        kinds: 6,
+    }
+}
+
+// What the version of this number fixes. No header with another number is read.
+pub fn format_of(version: u8) -> Format
+    ensures { λ r. ⌜ r ≡ formatOf versions version ⌝ }
+{
+    version_1()
+}
+
+fn known(version: u8) -> bool
+    ensures { λ r. ⌜ r ≡ any (λ f. eqb version (f .version)) versions ⌝ }
+{
+    version == 1
+}
+
+// ---- the header
+// Its conditions, all of which are bad at its place.
+fn header_fits(version: u8, kind: u8, actors: u8, zero: u8) -> bool
+    ensures { λ r. ⌜ r ≡ headerOk versions version kind actors zero ⌝ }
+{
+    if !known(version) {
+        return false;
+    }
+    if 2 < kind {
+        return false;
+    }
+    if actors < 1 {
+        return false;
+    }
+    if MOST_ACTORS < actors as usize {
+        return false;
+    }
+    zero == 0
+}
+
+pub fn read_header(script: &[u8], at: usize) -> HeaderRead
+    ensures { λ r. ⌜ r ≡ headerRead (one (headerForm versions) (drop at (now (script .entry))) at) ⌝ }
+    ensures says { λ r. ⌜ headerSays r ≡ readingSays (one (headerForm versions) (drop at (now (script .entry))) at) ⌝ }
+{
+    let s = from(script, at);
+    let version = field8(s, 0, 4);
+    let kind = field8(s, 4, 2);
+    let actors = field8(s, 6, 4);
+    let zero = field8(s, 10, 6);
+    if !header_fits(version, kind, actors, zero) {
+        return HeaderRead::Bad(at);
+    }
+    let end = end_of(script, at, 16);
+    match end {
+        Ending::At(next) => HeaderRead::Found(
+            Header {
+                version,
+                kind,
+                actors,
+            },
+            next,
+        ),
+        Ending::Bad => HeaderRead::Bad(at),
+    }
+}
+
+// ---- counts
+// A count of `width` bits, at most `most`.
+fn read_count(script: &[u8], at: usize, width: usize, most: usize) -> CountRead
+    requires { ⌜ width ≤ 16 ⌝ }
+    ensures { λ r. ⌜ r ≡ countRead (one (field width (λ c. only (leb c most) (filled c))) (drop at (now (script .entry))) at) ⌝ }
+{
+    let s = from(script, at);
+    let count = field(s, 0, width) as usize;
+    if most < count {
+        return CountRead::Bad(at);
+    }
+    let end = end_of(script, at, width);
+    match end {
+        Ending::At(next) => CountRead::Found(count, next),
+        Ending::Bad => CountRead::Bad(at),
+    }
+}
+
+// How many rules a table has.
+pub fn read_rule_count(script: &[u8], at: usize) -> CountRead
+    ensures { λ r. ⌜ r ≡ countRead (one ruleCountForm (drop at (now (script .entry))) at) ⌝ }
+    ensures says { λ r. ⌜ countSays r ≡ readingSays (one ruleCountForm (drop at (now (script .entry))) at) ⌝ }
+{
+    read_count(script, at, 5, MOST_RULES)
+}
+
+// How many envelopes are on the network at the start.
+pub fn read_envelope_count(script: &[u8], at: usize, f: Format) -> CountRead
+    requires { ⌜ Fine f ⌝ }
+    ensures { λ r. ⌜ r ≡ countRead (one (envelopeCountForm f) (drop at (now (script .entry))) at) ⌝ }
+    ensures says { λ r. ⌜ countSays r ≡ readingSays (one (envelopeCountForm f) (drop at (now (script .entry))) at) ⌝ }
+{
+    read_count(script, at, f.count, f.most)
+}
+
+// ---- a rule
+fn command_part(s: &[u8], at: usize, f: Format) -> CommandPart
+    requires { ⌜ (at < 1024) × Fine f ⌝ }
+    ensures { λ r. ⌜ r ≡ commandPart (follow (now (s .entry)) (commandForm f) at) ⌝ }
+    ensures short { λ r. ⌜ commandEnd r ≤ at + 50 ⌝ }
+{
+    let kind = field8(s, at, f.command);
+    let b = at + f.command;
+    match kind {
+        0 => {
+            let timer = field8(s, b, 5);
+            CommandPart::Found(RuleCommand::SetTimer(timer), b + 5)
+        }
+        1 => {
+            let timer = field8(s, b, 5);
+            CommandPart::Found(RuleCommand::CancelTimer(timer), b + 5)
+        }
+        2 => {
+            let source = field8(s, b, 1);
+            let dst = field8(s, b + 1, 8);
+            let echo = field8(s, b + 9, 1);
+            let payload = field32(s, b + 10, 32);
+            let c = RuleCommand::Send(source == 1, Id(dst), echo == 1, Payload(payload));
+            CommandPart::Found(c, b + 42)
+        }
+        3 => {
+            let echo = field8(s, b, 1);
+            let value = field32(s, b + 1, 32);
+            CommandPart::Found(RuleCommand::Save(echo == 1, value), b + 33)
+        }
+        _ => CommandPart::Stuck,
+    }
+}
+
+fn zero_slot() -> Slot
+    ensures { λ r. ⌜ r ≡ zeroSlot ⌝ }
+{
+    Slot {
+        command: RuleCommand::SetTimer(0),
+    }
+}
+
+fn no_commands() -> CommandsPart
+    ensures { λ r. ⌜ r ≡ record { found = false; commands = slotsOf []; end = 0 } ⌝ }
+{
+    let commands = [zero_slot(); MOST_COMMANDS];
+    CommandsPart {
+        found: false,
+        commands,
+        end: 0,
+    }
+}
+
+fn commands_part(s: &[u8], at: usize, count: usize, f: Format) -> CommandsPart
+    requires { ⌜ (at < 128) × (count ≤ mostCommands) × Fine f ⌝ }
+    ensures { λ r. ⌜ r ≡ commandsPart (follow (now (s .entry)) (then (times count (commandForm f)) (λ cs. filled (slotsOf cs))) at) ⌝ }
+    ensures short { λ r. ⌜ r .end ≤ at + 200 ⌝ }
+{
+    let mut commands = [zero_slot(); MOST_COMMANDS];
+    let mut end = at;
+    let mut i = 0;
+    while i < count {
+        let c = command_part(s, end, f);
+        match c {
+            CommandPart::Found(command, after) => {
+                commands[i] = Slot { command };
+                end = after;
+                i += 1;
+            }
+            CommandPart::Stuck => return no_commands(),
+        }
+    }
+    CommandsPart {
+        found: true,
+        commands,
+        end,
+    }
+}
+
+// The rule that stands in an unused place of a table.
+pub fn zero_rule() -> Rule
+    ensures { λ r. ⌜ r ≡ zeroRule ⌝ }
+{
+    let commands = [zero_slot(); MOST_COMMANDS];
+    Rule {
+        event: 0,
+        state: 0,
+        low: 0,
+        high: 0,
+        touched: false,
+        next: 0,
+        commands,
+        used: 0,
+    }
+}
+
+fn bad_rule(place: usize) -> RuleRead
+    ensures { λ r. ⌜ r ≡ record { found = false; rule = zeroRule; next = place } ⌝ }
+{
+    let rule = zero_rule();
+    RuleRead {
+        found: false,
+        rule,
+        next: place,
+    }
+}
+
+// A rule of which all fields but the commands stand at the front of s, before bit 76 behind its event.
+fn rule_of(s: &[u8], cs: CommandsPart, count: usize, f: Format) -> Rule
+    requires { ⌜ Fine f ⌝ }
+    ensures { λ r. ⌜ r ≡ ruleWith (now (s .entry)) (f .event) (cs .commands) count ⌝ }
+{
+    let b = f.event;
+    let event = field8(s, 0, b);
+    let state = field8(s, b, 4);
+    let low = field32(s, b + 4, 32);
+    let high = field32(s, b + 36, 32);
+    let touched = field8(s, b + 68, 1);
+    let next = field8(s, b + 69, 4);
+    let commands = cs.commands;
+    Rule {
+        event,
+        state,
+        low,
+        high,
+        touched: touched == 1,
+        next,
+        commands,
+        used: count,
+    }
+}
+
+pub fn read_rule(script: &[u8], at: usize, f: Format) -> RuleRead
+    requires { ⌜ Fine f ⌝ }
+    ensures { λ r. ⌜ r ≡ ruleRead (one (ruleForm f) (drop at (now (script .entry))) at) ⌝ }
+    ensures says { λ r. ⌜ ruleSays r ≡ readingSays (one (ruleForm f) (drop at (now (script .entry))) at) ⌝ }
+{
+    let s = from(script, at);
+    let b = f.event;
+    let count = field8(s, b + 73, 3) as usize;
+    if MOST_COMMANDS < count {
+        return bad_rule(at);
+    }
+    let cs = commands_part(s, b + 76, count, f);
+    let found = cs.found;
+    let used = cs.end;
+    if !found {
+        return bad_rule(at);
+    }
+    let end = end_of(script, at, used);
+    match end {
+        Ending::At(next) => {
+            let rule = rule_of(s, cs, count, f);
+            RuleRead {
+                found: true,
+                rule,
+                next,
+            }
+        }
+        Ending::Bad => bad_rule(at),
+    }
+}
+
+// ---- an envelope
+fn message_part(s: &[u8], at: usize, f: Format) -> MessagePart
+    requires { ⌜ (at < 1024) × Fine f ⌝ }
+    ensures { λ r. ⌜ r ≡ messagePart (follow (now (s .entry)) (messageForm f) at) ⌝ }
+    ensures short { λ r. ⌜ messageEnd r ≤ at + 104 ⌝ }
+{
+    let tag = field8(s, at, f.tag);
+    let b = at + f.tag;
+    let after = b + f.number;
+    match tag {
+        0 => {
+            let number = field(s, b, f.number);
+            let payload = field32(s, after, 32);
+            MessagePart::Found(
+                Message::Deliver(Number(number), Payload(payload)),
+                after + 32,
+            )
+        }
+        1 => {
+            let number = field(s, b, f.number);
+            MessagePart::Found(Message::Ack(Number(number)), after)
+        }
+        _ => MessagePart::Stuck,
+    }
+}
+
+fn envelope_part(s: &[u8], at: usize, f: Format) -> EnvelopePart
+    requires { ⌜ (at < 128) × Fine f ⌝ }
+    ensures { λ r. ⌜ r ≡ envelopePart (follow (now (s .entry)) (envelopeForm f) at) ⌝ }
+    ensures short { λ r. ⌜ envelopeEnd r ≤ at + 120 ⌝ }
+{
+    let src = field8(s, at, 8);
+    let dst = field8(s, at + 8, 8);
+    let m = message_part(s, at + 16, f);
+    match m {
+        MessagePart::Found(msg, end) => EnvelopePart::Found(
+            Envelope {
+                src: Id(src),
+                dst: Id(dst),
+                msg,
+            },
+            end,
+        ),
+        MessagePart::Stuck => EnvelopePart::Stuck,
+    }
+}
+
+pub fn read_envelope(script: &[u8], at: usize, f: Format) -> EnvelopeRead
+    requires { ⌜ Fine f ⌝ }
+    ensures { λ r. ⌜ r ≡ envelopeRead (one (envelopeForm f) (drop at (now (script .entry))) at) ⌝ }
+    ensures says { λ r. ⌜ envelopeSays r ≡ readingSays (one (envelopeForm f) (drop at (now (script .entry))) at) ⌝ }
+{
+    let x = envelope_part(from(script, at), 0, f);
+    match x {
+        EnvelopePart::Found(e, used) => {
+            let end = end_of(script, at, used);
+            match end {
+                Ending::At(next) => EnvelopeRead::Found(e, next),
+                Ending::Bad => EnvelopeRead::Bad(at),
+            }
+        }
+        EnvelopePart::Stuck => EnvelopeRead::Bad(at),
+    }
+}
+
+// ---- an action
+fn with_envelope(x: EnvelopePart, delivers: bool) -> ActionPart
+    ensures { λ r. ⌜ r ≡ withEnvelope delivers x ⌝ }
+{
+    match x {
+        EnvelopePart::Found(e, end) => {
+            if delivers {
+                return ActionPart::Act(Action::Deliver(e), end);
+            }
+            ActionPart::Act(Action::Drop(e), end)
+        }
+        EnvelopePart::Stuck => ActionPart::Stuck,
+    }
+}
+
+// Its kind, of which the format has so many, and what belongs to it.
+fn action_part(s: &[u8], f: Format) -> ActionPart
+    requires { ⌜ Fine f ⌝ }
+    ensures { λ r. ⌜ r ≡ actionPart (follow (now (s .entry)) (actionForm f) 0) ⌝ }
+    ensures short { λ r. ⌜ actionEnd r ≤ 123 ⌝ }
+{
+    let kind = field8(s, 0, 3);
+    if f.kinds <= kind {
+        return ActionPart::Stuck;
+    }
+    match kind {
+        0 => ActionPart::End(3),
+        1 => with_envelope(envelope_part(s, 3, f), true),
+        2 => with_envelope(envelope_part(s, 3, f), false),
+        3 => {
+            let id = field8(s, 3, 8);
+            let timer = field8(s, 11, 5);
+            ActionPart::Act(Action::Timeout(Id(id), timer), 16)
+        }
+        4 => {
+            let id = field8(s, 3, 8);
+            ActionPart::Act(Action::Crash(Id(id)), 11)
+        }
+        5 => {
+            let id = field8(s, 3, 8);
+            ActionPart::Act(Action::Recover(Id(id)), 11)
+        }
+        _ => ActionPart::Stuck,
+    }
+}
+
+// One action, or end. Read at place 0 it is taken from the front of the script, and the place after it is its size.
+pub fn read_action(script: &[u8], at: usize, f: Format) -> ActionRead
+    requires { ⌜ Fine f ⌝ }
+    ensures { λ r. ⌜ r ≡ actionRead (one (actionForm f) (drop at (now (script .entry))) at) ⌝ }
+    ensures says { λ r. ⌜ actionSays r ≡ readingSays (one (actionForm f) (drop at (now (script .entry))) at) ⌝ }
+{
+    let x = action_part(from(script, at), f);
+    match x {
+        ActionPart::Act(a, used) => {
+            let end = end_of(script, at, used);
+            match end {
+                Ending::At(next) => ActionRead::Act(a, next),
+                Ending::Bad => ActionRead::Bad(at),
+            }
+        }
+        ActionPart::End(used) => {
+            let end = end_of(script, at, used);
+            match end {
+                Ending::At(next) => ActionRead::End(next),
+                Ending::Bad => ActionRead::Bad(at),
+            }
+        }
+        ActionPart::Stuck => ActionRead::Bad(at),
+    }
+}
+
+// How many bytes were taken from the front; none of a bad record.
+fn size_of(x: ActionRead) -> usize
+    ensures { λ r. ⌜ r ≡ actionSize x ⌝ }
+{
+    match x {
+        ActionRead::Act(_, n) => n,
+        ActionRead::End(n) => n,
+        ActionRead::Bad(_) => 0,
+    }
+}
+
+// The same script from the next record on; all of it where the record is bad.
+pub fn rest(s: &[u8], f: Format) -> &[u8]
+    requires { ⌜ Fine f ⌝ }
+    ensures { λ r. ⌜ now r ≡ unread f (now (s .entry)) ⌝ }
+{
+    let x = read_action(s, 0, f);
+    let n = size_of(x);
     from(s, n)
 }

@@ -1,18 +1,24 @@
+-- After i turns the first i slots hold the commands that the form finds, and the others are zero. Where one command is stuck, all of them are.
 use native.Mathlib.Omega.{arith}
-use Prim.Native.Nat.{ℕ, _+_, _-_, _*_, _≤_}
+use Prim.Native.Nat.{ℕ, suc, _+_, _-_, _*_, _≤_, _<_}
 use mathlib.Core.Path.{_≡_, refl, sym, ap, _∙_}
 use mathlib.Core.List.{List, [], _∷_, _++_, map, map-append}
 use borrow.Author.Needs.{needs}
+use lib.ListN.{take, set}
+use native.Mathlib.Numerals.{add-one}
 use Rattle.lists.specs.Lists.{pad}
-use Rattle.layout.specs.Form.{reached, follow, times}
+use Rattle.layout.specs.Form.{reached, stuck, follow, times}
 use Rattle.layout.proofs.Laws.{follow-more}
+use Rattle.types.specs.Capacities.{mostCommands}
+use Rattle.types.specs.declared.RuleCommand.{RuleCommand}
 use Rattle.types.specs.declared.Slot.{Slot}
 use Rattle.rules.specs.Inner.{zeroSlot, slotsOf}
 use Rattle.rules.specs.Script.{commandForm}
-use Rattle.script_records.proofs.Laws.{then-at, slots-are, more-used, more-laid}
-use lib.ListN.{take, set}
-use native.Mathlib.Numerals.{add-one}
-use Rattle.types.specs.declared.RuleCommand.{RuleCommand}
+use Rattle.types.specs.declared.Format.{Format}
+use Rattle.script_records.specs.declared.CommandsPart.{CommandsPart}
+use Rattle.script_records.specs.declared.CommandPart.the-variants as commands
+use Rattle.script_records.specs.Views.{commandEnd, commandPart, commandsPart}
+use Rattle.script_records.proofs.Laws.{then-at, then-stuck, times-stuck, command-found, command-stuck, slots-are, more-used, more-laid}
 use Rattle.script_records.proofs.commands_part.Statement.{statement}
 use Rattle.script_records.proofs.commands_part.Tie as tie
 
@@ -22,25 +28,53 @@ told1 s = s .command
 abbrev told : List Slot → List RuleCommand
 told l = map told1 l
 
+-- What holds after i turns.
+pub record Turn (s : List ℕ) (at count : ℕ) (f : Format) (cs : List Slot) (end i : ℕ) : Type 0 where
+  pub some : i ≤ count
+  pub near : end ≤ at + 50 * i
+  pub laid : cs ≡ pad mostCommands zeroSlot (take i cs)
+  pub reads : follow s (times i (commandForm f)) at ≡ reached (told (take i cs)) end
+
+module _ {s : List ℕ} {at count : ℕ} {f : Format} {cs : List Slot} {end i : ℕ} (t : Turn s at count f cs end i) (less : i < count) where
+  one-more : {x : RuleCommand} {n : ℕ} → count ≤ mostCommands → commands.Found x n ≡ commandPart (follow s (commandForm f) end) → n ≤ end + 50
+      → Turn s at count f (set cs i (record { command = x })) n (i + 1)
+  one-more {x} {n} room k near =
+      let w : cs ≡ pad mostCommands zeroSlot (take i cs) = t .laid in
+      let y : Slot = record { command = x } in
+      let e : take (i + 1) (set cs i y) ≡ take i cs ++ (y ∷ []) = more-used mostCommands zeroSlot cs i (omega arith) w y in
+      record {
+        some = omega arith;
+        near = omega (arith, t .near);
+        laid = more-laid mostCommands zeroSlot cs i (omega arith) w y;
+        reads = ap (λ (j : ℕ). follow s (times j (commandForm f)) at) (add-one i)
+            ∙ follow-more s (commandForm f) i at (t .reads) (command-found k)
+            ∙ ap (λ (q : List RuleCommand). reached q n) (sym (ap told e ∙ map-append told1 (take i cs) (y ∷ [])));
+      }
+
+  all-stuck : commands.Stuck ≡ commandPart (follow s (commandForm f) end) → follow s (times count (commandForm f)) at ≡ stuck
+  all-stuck k =
+      let e : i + suc (count - (i + 1)) ≡ count = omega arith in
+      ap (λ (j : ℕ). follow s (times j (commandForm f)) at) (sym e)
+      ∙ times-stuck s (commandForm f) i (count - (i + 1)) at (t .reads) (command-stuck k)
+
 abbrev Inv-loop : tie.InvT-loop
-Inv-loop s at count commands₀ end₀ i₀ commands end i =
-    (i ≤ count)
-    × (end ≤ at + 44 * i)
-    × (commands ≡ pad 4 zeroSlot (take i commands))
-    × (follow s (times i commandForm) at ≡ reached (told (take i commands)) end)
+Inv-loop s at count f commands₀ end₀ i₀ commands end i = Turn s at count f commands end i
 
 abbrev μ-loop : tie.MeasureT-loop
-μ-loop s at count commands₀ end₀ i₀ commands end i = count - i
+μ-loop s at count f commands₀ end₀ i₀ commands end i = count - i
 
 zero-slot-requires : tie.Need-zero-slot-requires Inv-loop μ-loop
 zero-slot-requires c κs = search needs
 
 loop-holds : tie.Need-loop-holds Inv-loop μ-loop
 unfolding pad
-loop-holds c = (search needs, search needs, rw (c .zero-slot .ensures), refl)
+loop-holds c = record { some = search needs; near = search needs; laid = rw (c .zero-slot .ensures); reads = refl }
 
 command-part-requires : tie.Need-command-part-requires Inv-loop μ-loop
 command-part-requires c κs = search needs
+
+enum-known-c : tie.Need-enum-known-c Inv-loop μ-loop
+enum-known-c c = search needs
 
 mul-commands : tie.Need-mul-commands Inv-loop μ-loop
 mul-commands c = search needs
@@ -56,32 +90,40 @@ loop-less c = search needs
 
 loop-again : tie.Need-loop-again Inv-loop μ-loop
 loop-again c =
-    let l = c .before .before .loop in
-    let a = c .before .before .before .before .before .args in
-    let x = c .command-part .result in
-    let s : Slot = record { command = x .command } in
-    let r : l .commands ≡ pad 4 zeroSlot (take (l .i) (l .commands)) = l .inv .2 in
-    let e : take (l .i + 1) (set (l .commands) (l .i) s) ≡ take (l .i) (l .commands) ++ (s ∷ []) =
-    more-used 4 zeroSlot (l .commands) (l .i) (omega arith) r s in (
-      search needs,
-      omega (arith, c .command-part .ensures .1),
-      more-laid 4 zeroSlot (l .commands) (l .i) (omega arith) r s,
-      ap (λ (k : ℕ). follow (a .s .now) (times k commandForm) (a .at)) (add-one (l .i))
-          ∙ follow-more (a .s .now) commandForm (l .i) (a .at) (l .inv .3) (c .command-part .ensures .0)
-          ∙ ap (λ (q : List RuleCommand). reached q (x .end)) (sym (ap told e ∙ map-append told1 (take (l .i) (l .commands)) (s ∷ []))),
-    )
+    let k = c .before .c .given .1 in
+    let r = c .before .before .before in
+    one-more (r .before .before .loop .inv) (omega arith) (omega arith) (sym k ∙ r .command-part .ensures .0) (omega (arith, r .command-part .ensures .1, ap commandEnd k))
+
+enum-told : tie.Need-enum-told Inv-loop μ-loop
+enum-told c = search needs
+
+no-commands-requires : tie.Need-no-commands-requires Inv-loop μ-loop
+no-commands-requires c κs = search needs
 
 returns : tie.Need-returns Inv-loop μ-loop
 returns c =
+    let r = c .before .before .before in
+    let l = r .before .before .loop in
+    let a = r .before .before .before .before .before .args in
+    let z = all-stuck (l .inv) (omega arith) (sym (c .before .enum-told .given .1) ∙ r .command-part .ensures .0) in (
+      c .no-commands .ensures ∙ sym (ap commandsPart (then-stuck (a .s .now) (a .at) (times (a .count) (commandForm (a .f))) slotsOf z)),
+      omega (arith, ap (λ (x : CommandsPart). x .end) (c .no-commands .ensures)),
+    )
+
+returns-2 : tie.Need-returns-2 Inv-loop μ-loop
+returns-2 c =
     let l = c .before .loop in
     let a = c .before .before .before .before .args in
     let e : l .i ≡ a .count = omega arith in
-    let h : follow (a .s .now) (times (a .count) commandForm) (a .at) ≡ reached (told (take (a .count) (l .commands))) (l .end) =
-    ap (λ (k : ℕ). follow (a .s .now) (times k commandForm) (a .at)) (sym e) ∙ l .inv .3 ∙ ap (λ (k : ℕ). reached (told (take k (l .commands))) (l .end)) e in
-    let r : l .commands ≡ pad 4 zeroSlot (take (a .count) (l .commands)) =
-    l .inv .2 ∙ ap (λ (k : ℕ). pad 4 zeroSlot (take k (l .commands))) e in (
-      then-at (a .s .now) (a .at) (times (a .count) commandForm) slotsOf h ∙ ap (λ (q : List Slot). reached q (l .end)) (slots-are (a .count) (l .commands) r),
-      omega arith,
+    let h : follow (a .s .now) (times (a .count) (commandForm (a .f))) (a .at) ≡ reached (told (take (a .count) (l .commands))) (l .end) =
+    ap (λ (k : ℕ). follow (a .s .now) (times k (commandForm (a .f))) (a .at)) (sym e)
+    ∙ l .inv .reads
+    ∙ ap (λ (k : ℕ). reached (told (take k (l .commands))) (l .end)) e in
+    let r : l .commands ≡ pad mostCommands zeroSlot (take (a .count) (l .commands)) =
+    l .inv .laid ∙ ap (λ (k : ℕ). pad mostCommands zeroSlot (take k (l .commands))) e in (
+      sym (ap commandsPart (then-at (a .s .now) (a .at) (times (a .count) (commandForm (a .f))) slotsOf h
+          ∙ ap (λ (q : List Slot). reached q (l .end)) (slots-are (a .count) (l .commands) r))),
+      omega (arith, l .inv .near),
     )
 
 pub commands-part-spec : {M : Type 1} → statement M
@@ -93,9 +135,13 @@ commands-part-spec =
     zero-slot-requires
     loop-holds
     command-part-requires
+    enum-known-c
     mul-commands
     array-set-from-commands
     add-i
     loop-less
     loop-again
-    returns)
+    enum-told
+    no-commands-requires
+    returns
+    returns-2)

@@ -1,62 +1,64 @@
+-- The tag picks what follows it. There is no third tag.
 use native.Mathlib.Omega.{arith}
-use Prim.Native.Nat.{ℕ, _+_}
-use mathlib.Core.Path.{_≡_, sym, ap, _∙_}
-use Rattle.layout.specs.Bits.{fieldAt}
-use Rattle.layout.specs.Form.{field}
-use Rattle.layout.proofs.Laws.{field-below}
-use Rattle.rules.specs.Script.{version1}
-use Rattle.script_records.proofs.Laws.{ack-at, deliver-at}
+use mathlib.Core.Path.{refl, sym, ap, _∙_}
+use Rattle.script_records.specs.Views.{messagePart}
+use Rattle.script_records.proofs.Laws.{deliver-at, ack-at, no-message}
 use borrow.Author.Needs.{needs}
 use Rattle.script_records.proofs.message_part.Statement.{statement}
 use Rattle.script_records.proofs.message_part.Tie as tie
+use Rattle.script_records.proofs.message_part.Reads as reads
+use Rattle.script_records.proofs.message_part.Lts as lts
+use Rattle.script_bits.proofs.field.Reads as field-reads
+use Rattle.script_bits.proofs.field32.Reads as field32-reads
+use Rattle.script_bits.proofs.field8.Reads as field8-reads
 
 field8-requires : tie.Need-field8-requires
 field8-requires c κs = search needs
 
-add-field : tie.Need-add-field
-add-field c = search needs
+add-b : tie.Need-add-b
+add-b c = search needs
+
+add-after : tie.Need-add-after
+add-after c = search needs
 
 field-requires : tie.Need-field-requires
 field-requires c κs = search needs
 
-add-t10 : tie.Need-add-t10
-add-t10 c = search needs
-
-returns : tie.Need-returns
-returns c =
-    let a = c .before .before .before .before .args in
-    (ack-at (a .s .now) (a .at) version1 (sym (c .if1 .taken) ∙ c .before .before .field8 .ensures) (c .before .field .ensures) (omega arith), search needs)
-
-add-field32 : tie.Need-add-field32
-add-field32 c = search needs
-
 field32-requires : tie.Need-field32-requires
 field32-requires c κs = search needs
 
-add-t6 : tie.Need-add-t6
-add-t6 c = search needs
+add-t14 : tie.Need-add-t14
+add-t14 c = search needs
+
+field-requires-2 : tie.Need-field-requires-2
+field-requires-2 c κs = search needs
+
+returns : tie.Need-returns
+returns c =
+    let a = c .before .before .before .before .before .before .before .args in
+    (sym (ap messagePart (deliver-at (a .s .now) (a .f) (a .at) refl refl (omega (arith, c .before .before .before .before .before .field8 .ensures)) (c .before .field .ensures) (c .field32 .ensures) refl)), search needs)
 
 returns-2 : tie.Need-returns-2
 returns-2 c =
+    let a = c .before .before .before .before .before .before .args in
+    (sym (ap messagePart (ack-at (a .s .now) (a .f) (a .at) refl refl (omega (arith, c .before .before .before .before .field8 .ensures)) (c .field2 .ensures))), search needs)
+
+returns-3 : tie.Need-returns-3
+returns-3 c =
     let a = c .before .before .before .before .before .args in
-    let t : c .before .before .before .field8 .result ≡ 0 =
-    omega (arith, c .before .before .before .field8 .ensures, field-below (a .s .now) (a .at) 1 1 (omega arith)) in
-    let e : a .at + 65 ≡ a .at + 1 + 64 = omega arith in (
-      deliver-at (a .s .now) (a .at) version1 (sym t ∙ c .before .before .before .field8 .ensures) (c .before .before .field .ensures)
-          (c .field32 .ensures ∙ ap (λ (i : ℕ). fieldAt (a .s .now) i 32) e) (omega arith),
-      search needs,
-    )
+    (sym (ap messagePart (no-message (a .s .now) (a .f) (a .at) (omega (arith, c .before .before .before .field8 .ensures)))), search needs)
 
 pub message-part-spec : {M : Type 1} → statement M
 message-part-spec =
     tie.close
     (tie.spec
     field8-requires
-    add-field
+    add-b
+    add-after
     field-requires
-    add-t10
-    returns
-    add-field32
     field32-requires
-    add-t6
-    returns-2)
+    add-t14
+    field-requires-2
+    returns
+    returns-2
+    returns-3)

@@ -1,43 +1,59 @@
-use Prim.Native.Nat.{ℕ}
-use mathlib.Core.Path.{sym, ap, _∙_}
-use Rattle.layout.specs.Form.{Form}
+-- The count is its one field, and a record of so many bits.
+use native.Mathlib.Omega.{arith}
+use mathlib.Core.Path.{refl, sym, ap, _∙_}
 use Rattle.script_records.specs.Views.{countRead}
-use Rattle.script_records.proofs.Laws.{record-whole, record-not, record-bad, countForm, count-at, no-count}
+use Rattle.script_records.proofs.Laws.{tells-at, tells-not, tells-stuck, countForm, count-at, no-count}
 use borrow.Author.Needs.{needs}
 use Rattle.script_records.proofs.read_count.Statement.{statement}
 use Rattle.script_records.proofs.read_count.Tie as tie
+use Rattle.script_records.proofs.read_count.Reads as reads
+use Rattle.script_records.proofs.read_count.Lts as lts
+use Rattle.script_bits.proofs.field.Reads as field-reads
+use Rattle.script_records.proofs.end_of.Reads as end-of-reads
+use Rattle.script_records.proofs.from.Reads as from-reads
 
-field8-requires : tie.Need-field8-requires
-field8-requires c κs = search needs
+from-requires : tie.Need-from-requires
+from-requires c κs = search needs
 
-cast-count : tie.Need-cast-count
-cast-count c = search needs
-
-whole-requires : tie.Need-whole-requires
-whole-requires c κs = search needs
-
-add-t8 : tie.Need-add-t8
-add-t8 c = search needs
+field-requires : tie.Need-field-requires
+field-requires c κs = search needs
 
 returns : tie.Need-returns
 returns c =
-    let a = c .before .before .before .before .before .args in
-    let f : Form ℕ = countForm (a .s .now) (a .width) (a .most) in
-    sym (ap countRead (record-whole (a .s .now) f (count-at (a .s .now) (a .width) (a .most) (c .before .before .before .field8 .ensures) (c .before .before .if1 .taken)) (sym (c .before .whole .ensures) ∙ c .if2 .taken)))
+    let a = c .before .before .before .before .args in
+    tells-stuck countRead (countForm (a .width) (a .most)) (a .script .now) (a .at) (c .before .before .from .ensures)
+    (no-count _ (a .width) (a .most) (c .before .field .ensures) (c .if1 .taken))
+
+end-of-requires : tie.Need-end-of-requires
+end-of-requires c κs = search needs
+
+enum-known-end : tie.Need-enum-known-end
+enum-known-end c = search needs
+
+enum-told : tie.Need-enum-told
+enum-told c = search needs
 
 returns-2 : tie.Need-returns-2
 returns-2 c =
-    let a = c .before .before .before .before .before .args in
-    let f : Form ℕ = countForm (a .s .now) (a .width) (a .most) in
-    sym (ap countRead (record-not (a .s .now) f (count-at (a .s .now) (a .width) (a .most) (c .before .before .before .field8 .ensures) (c .before .before .if1 .taken)) (sym (c .before .whole .ensures) ∙ c .if2 .left)))
+    let a = c .before .before .before .before .before .before .before .before .args in
+    tells-at countRead (countForm (a .width) (a .most)) (a .script .now) (a .at) (c .before .before .before .before .before .before .from .ensures)
+    (count-at _ (a .width) (a .most) (c .before .before .before .before .before .field .ensures) (c .before .before .before .before .if1 .left)) (sym (c .before .end .given .1) ∙ c .before .before .before .end-of .ensures) refl
 
 returns-3 : tie.Need-returns-3
 returns-3 c =
-    let a = c .before .before .before .args in
-    let f : Form ℕ = countForm (a .s .now) (a .width) (a .most) in
-    sym (ap countRead (record-bad (a .s .now) f (no-count (a .s .now) (a .width) (a .most) (c .before .field8 .ensures) (c .if1 .left))))
+    let a = c .before .before .before .before .before .before .before .args in
+    tells-not countRead (countForm (a .width) (a .most)) (a .script .now) (a .at) (c .before .before .before .before .before .from .ensures)
+    (count-at _ (a .width) (a .most) (c .before .before .before .before .field .ensures) (c .before .before .before .if1 .left)) (sym (c .enum-told .given .1) ∙ c .before .before .end-of .ensures)
 
 pub read-count-spec : {M : Type 1} → statement M
 read-count-spec =
     tie.close
-    (tie.spec field8-requires cast-count whole-requires add-t8 returns returns-2 returns-3)
+    (tie.spec
+    from-requires
+    field-requires
+    returns
+    end-of-requires
+    enum-known-end
+    enum-told
+    returns-2
+    returns-3)

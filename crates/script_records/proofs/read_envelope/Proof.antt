@@ -1,32 +1,77 @@
-use mathlib.Core.Path.{sym, ap, _∙_}
-use Rattle.rules.specs.Script.{version1, envelopeForm}
-use Rattle.script_records.specs.Views.{envelopeRead}
-use Rattle.script_records.proofs.Laws.{record-whole, record-not}
-use Rattle.layout.specs.Form.{recordOf}
+-- The envelope's part from the place on, and its end.
+use native.Mathlib.Omega.{arith}
+use mathlib.Core.Path.{_≡_, refl, sym, ap, _∙_}
+use lib.ListN.{drop}
+use Rattle.layout.specs.Read.{one}
+use Rattle.rules.specs.Script.{envelopeForm}
+use Rattle.script_records.specs.Views.{envelopeRead, envelopeEnd}
+use Rattle.script_records.proofs.Laws.{tells-at, tells-not, tells-stuck, envelope-found, envelope-stuck}
 use Rattle.script_records.proofs.Says.{envelope-both}
 use borrow.Author.Needs.{needs}
 use Rattle.script_records.proofs.read_envelope.Statement.{statement}
 use Rattle.script_records.proofs.read_envelope.Tie as tie
+use Rattle.script_records.proofs.read_envelope.Reads as reads
+use Rattle.script_records.proofs.read_envelope.Lts as lts
+use Rattle.script_records.proofs.end_of.Reads as end-of-reads
+use Rattle.script_records.proofs.envelope_part.Reads as envelope-part-reads
+use Rattle.script_records.proofs.from.Reads as from-reads
+
+from-requires : tie.Need-from-requires
+from-requires c κs = search needs
 
 envelope-part-requires : tie.Need-envelope-part-requires
 envelope-part-requires c κs = search needs
 
-whole-requires : tie.Need-whole-requires
-whole-requires c κs = search needs
+enum-known-x : tie.Need-enum-known-x
+enum-known-x c = search needs
 
-add-t6 : tie.Need-add-t6
-add-t6 c = search needs
+end-of-requires : tie.Need-end-of-requires
+end-of-requires c κs = omega (arith, c .before .before .before .envelope-part .ensures .1, ap envelopeEnd (c .before .x .given .1))
+
+enum-known-end : tie.Need-enum-known-end
+enum-known-end c = search needs
+
+enum-told : tie.Need-enum-told
+enum-told c = search needs
+
+enum-told-2 : tie.Need-enum-told-2
+enum-told-2 c = search needs
 
 returns : tie.Need-returns
 returns c =
-    let s = c .before .before .before .before .before .args .s .now in
-    envelope-both (recordOf (envelopeForm version1) s) (sym (ap envelopeRead (record-whole s (envelopeForm version1) (c .before .before .before .envelope-part .ensures .0) (sym (c .before .whole .ensures) ∙ c .if1 .taken))))
+    let r = c .before .before .before .before .before .before .before in
+    let a = r .before .before .before .args in
+    envelope-both (one (envelopeForm (a .f)) (drop (a .at) (a .script .now)) (a .at))
+    (tells-at envelopeRead (envelopeForm (a .f)) (a .script .now) (a .at) (r .before .from .ensures)
+    (envelope-found (sym (c .before .before .before .before .before .x .given .1) ∙ r .envelope-part .ensures .0)) (sym (c .before .end .given .1) ∙ c .before .before .before .end-of .ensures) refl)
 
 returns-2 : tie.Need-returns-2
 returns-2 c =
-    let s = c .before .before .before .before .before .args .s .now in
-    envelope-both (recordOf (envelopeForm version1) s) (sym (ap envelopeRead (record-not s (envelopeForm version1) (c .before .before .before .envelope-part .ensures .0) (sym (c .before .whole .ensures) ∙ c .if1 .left))))
+    let r = c .before .before .before .before .before .before in
+    let a = r .before .before .before .args in
+    envelope-both (one (envelopeForm (a .f)) (drop (a .at) (a .script .now)) (a .at))
+    (tells-not envelopeRead (envelopeForm (a .f)) (a .script .now) (a .at) (r .before .from .ensures)
+    (envelope-found (sym (c .before .before .before .before .x .given .1) ∙ r .envelope-part .ensures .0)) (sym (c .enum-told .given .1) ∙ c .before .before .end-of .ensures))
+
+returns-3 : tie.Need-returns-3
+returns-3 c =
+    let r = c .before .before in
+    let a = r .before .before .before .args in
+    envelope-both (one (envelopeForm (a .f)) (drop (a .at) (a .script .now)) (a .at))
+    (tells-stuck envelopeRead (envelopeForm (a .f)) (a .script .now) (a .at) (r .before .from .ensures)
+    (envelope-stuck (sym (c .enum-told2 .given .1) ∙ r .envelope-part .ensures .0)))
 
 pub read-envelope-spec : {M : Type 1} → statement M
 read-envelope-spec =
-    tie.close (tie.spec envelope-part-requires whole-requires add-t6 returns returns-2)
+    tie.close
+    (tie.spec
+    from-requires
+    envelope-part-requires
+    enum-known-x
+    end-of-requires
+    enum-known-end
+    enum-told
+    enum-told-2
+    returns
+    returns-2
+    returns-3)

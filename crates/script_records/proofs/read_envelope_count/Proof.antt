@@ -1,16 +1,23 @@
-use Rattle.rules.specs.Script.{version1, envelopeCountForm}
-use Rattle.layout.specs.Form.{recordOf}
+-- The count of the format's own width and bound.
+use lib.ListN.{drop}
+use Rattle.layout.specs.Read.{one}
+use Rattle.rules.specs.Script.{envelopeCountForm}
 use Rattle.script_records.proofs.Says.{count-both}
 use borrow.Author.Needs.{needs}
 use Rattle.script_records.proofs.read_envelope_count.Statement.{statement}
 use Rattle.script_records.proofs.read_envelope_count.Tie as tie
+use Rattle.script_records.proofs.read_envelope_count.Reads as reads
+use Rattle.script_records.proofs.read_envelope_count.Lts as lts
+use Rattle.script_records.proofs.read_count.Reads as read-count-reads
 
 read-count-requires : tie.Need-read-count-requires
 read-count-requires c κs = search needs
 
 returns : tie.Need-returns
 unfolding envelopeCountForm
-returns c = count-both (recordOf (envelopeCountForm version1) (c .before .before .args .s .now)) (c .read-count .ensures)
+returns c =
+    let a = c .before .before .args in
+    count-both (one (envelopeCountForm (a .f)) (drop (a .at) (a .script .now)) (a .at)) (c .read-count .ensures)
 
 pub read-envelope-count-spec : {M : Type 1} → statement M
 read-envelope-count-spec = tie.close (tie.spec read-count-requires returns)

@@ -1,13 +1,24 @@
-use mathlib.Core.Path.{_≡_, sym, ap, _∙_}
-use mathlib.Core.Bool.{true, false}
-use Rattle.rules.specs.Script.{version1, headerForm}
+-- Its four fields lead the form to the header, or to nothing where a test fails; then it ends after 16 bits.
+use mathlib.Core.Path.{refl, sym, _∙_}
+use borrow.Author.Tests.{not-true, not-false}
+use lib.ListN.{drop}
+use Rattle.layout.specs.Read.{one}
+use Rattle.rules.specs.Script.{versions, headerForm}
 use Rattle.script_records.specs.Views.{headerRead}
-use Rattle.script_records.proofs.Laws.{record-whole, record-not, record-bad, headerTests, header-at, no-header}
-use Rattle.layout.specs.Form.{recordOf}
+use Rattle.script_records.proofs.Laws.{tells-at, tells-not, tells-stuck, header-at, no-header}
 use Rattle.script_records.proofs.Says.{header-both}
 use borrow.Author.Needs.{needs}
 use Rattle.script_records.proofs.read_header.Statement.{statement}
 use Rattle.script_records.proofs.read_header.Tie as tie
+use Rattle.script_records.proofs.read_header.Reads as reads
+use Rattle.script_records.proofs.read_header.Lts as lts
+use Rattle.script_bits.proofs.field8.Reads as field8-reads
+use Rattle.script_records.proofs.end_of.Reads as end-of-reads
+use Rattle.script_records.proofs.from.Reads as from-reads
+use Rattle.script_records.proofs.header_fits.Reads as header-fits-reads
+
+from-requires : tie.Need-from-requires
+from-requires c κs = search needs
 
 field8-requires : tie.Need-field8-requires
 field8-requires c κs = search needs
@@ -24,41 +35,54 @@ field8-requires-4 c κs = search needs
 header-fits-requires : tie.Need-header-fits-requires
 header-fits-requires c κs = search needs
 
-whole-requires : tie.Need-whole-requires
-whole-requires c κs = search needs
-
 returns : tie.Need-returns
 returns c =
-    let s = c .before .before .before .before .before .before .before .before .before .args .s .now in
-    let t : headerTests s version1 ≡ true =
-    rw (← c .before .before .before .before .before .before .before .field8 .ensures, ← c .before .before .before .before .before .before .field82 .ensures, ← c .before .before .before .before .before .field83 .ensures, ← c .before .before .before .before .field84 .ensures) (sym (c .before .before .before .header-fits .ensures) ∙ c .before .before .if1 .taken) in
-    header-both (recordOf (headerForm version1) s) (rw (c .before .before .before .before .before .before .field82 .ensures, c .before .before .before .before .before .field83 .ensures)
-    (sym (ap headerRead (record-whole s (headerForm version1) (header-at s version1 t) (sym (c .before .whole .ensures) ∙ c .if2 .taken)))))
+    let a = c .before .before .before .before .before .before .before .before .args in
+    header-both (one (headerForm versions) (drop (a .at) (a .script .now)) (a .at))
+    (tells-stuck headerRead (headerForm versions) (a .script .now) (a .at) (c .before .before .before .before .before .before .from .ensures)
+    (no-header _ versions (c .before .before .before .before .before .field8 .ensures) (c .before .before .before .before .field82 .ensures) (c .before .before .before .field83 .ensures) (c .before .before .field84 .ensures)
+    (sym (c .before .header-fits .ensures) ∙ not-true _ (c .if1 .taken))))
+
+end-of-requires : tie.Need-end-of-requires
+end-of-requires c κs = search needs
+
+enum-known-end : tie.Need-enum-known-end
+enum-known-end c = search needs
+
+enum-told : tie.Need-enum-told
+enum-told c = search needs
 
 returns-2 : tie.Need-returns-2
 returns-2 c =
-    let s = c .before .before .before .before .before .before .before .before .before .args .s .now in
-    let t : headerTests s version1 ≡ true =
-    rw (← c .before .before .before .before .before .before .before .field8 .ensures, ← c .before .before .before .before .before .before .field82 .ensures, ← c .before .before .before .before .before .field83 .ensures, ← c .before .before .before .before .field84 .ensures) (sym (c .before .before .before .header-fits .ensures) ∙ c .before .before .if1 .taken) in
-    header-both (recordOf (headerForm version1) s) (sym (ap headerRead (record-not s (headerForm version1) (header-at s version1 t) (sym (c .before .whole .ensures) ∙ c .if2 .left))))
+    let a = c .before .before .before .before .before .before .before .before .before .before .before .before .args in
+    header-both (one (headerForm versions) (drop (a .at) (a .script .now)) (a .at))
+    (tells-at headerRead (headerForm versions) (a .script .now) (a .at) (c .before .before .before .before .before .before .before .before .before .before .from .ensures)
+    (header-at _ versions (c .before .before .before .before .before .before .before .before .before .field8 .ensures) (c .before .before .before .before .before .before .before .before .field82 .ensures) (c .before .before .before .before .before .before .before .field83 .ensures) (c .before .before .before .before .before .before .field84 .ensures)
+    (sym (c .before .before .before .before .before .header-fits .ensures) ∙ not-false _ (c .before .before .before .before .if1 .left)))
+    (sym (c .before .end .given .1) ∙ c .before .before .before .end-of .ensures) refl)
 
 returns-3 : tie.Need-returns-3
 returns-3 c =
-    let s = c .before .before .before .before .before .before .before .args .s .now in
-    let t : headerTests s version1 ≡ false =
-    rw (← c .before .before .before .before .before .field8 .ensures, ← c .before .before .before .before .field82 .ensures, ← c .before .before .before .field83 .ensures, ← c .before .before .field84 .ensures) (sym (c .before .header-fits .ensures) ∙ c .if1 .left) in
-    header-both (recordOf (headerForm version1) s) (sym (ap headerRead (record-bad s (headerForm version1) (no-header s version1 t))))
+    let a = c .before .before .before .before .before .before .before .before .before .before .before .args in
+    header-both (one (headerForm versions) (drop (a .at) (a .script .now)) (a .at))
+    (tells-not headerRead (headerForm versions) (a .script .now) (a .at) (c .before .before .before .before .before .before .before .before .before .from .ensures)
+    (header-at _ versions (c .before .before .before .before .before .before .before .before .field8 .ensures) (c .before .before .before .before .before .before .before .field82 .ensures) (c .before .before .before .before .before .before .field83 .ensures) (c .before .before .before .before .before .field84 .ensures)
+    (sym (c .before .before .before .before .header-fits .ensures) ∙ not-false _ (c .before .before .before .if1 .left)))
+    (sym (c .enum-told .given .1) ∙ c .before .before .end-of .ensures))
 
 pub read-header-spec : {M : Type 1} → statement M
 read-header-spec =
     tie.close
     (tie.spec
+    from-requires
     field8-requires
     field8-requires-2
     field8-requires-3
     field8-requires-4
     header-fits-requires
-    whole-requires
     returns
+    end-of-requires
+    enum-known-end
+    enum-told
     returns-2
     returns-3)

@@ -1,37 +1,35 @@
+-- The count stands behind the other fields and says how many commands follow. Too many, or one that is stuck, leave no rule.
 use native.Mathlib.Omega.{arith}
 use Prim.Native.Nat.{ℕ}
-use mathlib.Core.Path.{_≡_, sym, ap, _∙_}
-use Rattle.layout.specs.Bits.{fieldAt}
-use Rattle.layout.specs.Form.{filled, reached, follow, then, times}
-use Rattle.rules.specs.Inner.{slotsOf}
-use Rattle.rules.specs.Script.{commandForm, ruleForm, end}
+use mathlib.Core.Path.{_≡_, refl, sym, ap, _∙_}
+use borrow.Author.Tests.{not-true, not-false}
+use lib.ListN.{drop}
+use Rattle.layout.specs.Read.{one}
+use Rattle.types.specs.declared.Rule.{Rule}
+use Rattle.rules.specs.Script.{ruleForm}
 use Rattle.script_records.specs.Views.{ruleRead}
-use Rattle.script_records.proofs.Laws.{record-whole, record-not, record-bad, rule-at, no-rule}
+use Rattle.script_records.proofs.Laws.{tells-at, tells-not, tells-stuck, rule-at, rule-stuck, no-rule, commands-found, commands-stuck}
 use Rattle.script_records.proofs.Says.{rule-both}
 use borrow.Author.Needs.{needs}
 use Rattle.script_records.proofs.read_rule.Statement.{statement}
 use Rattle.script_records.proofs.read_rule.Tie as tie
+use Rattle.script_records.proofs.read_rule.Reads as reads
+use Rattle.script_records.proofs.read_rule.Lts as lts
+use Rattle.script_bits.proofs.field8.Reads as field8-reads
+use Rattle.script_records.proofs.bad_rule.Reads as bad-rule-reads
+use Rattle.script_records.proofs.commands_part.Reads as commands-part-reads
+use Rattle.script_records.proofs.end_of.Reads as end-of-reads
+use Rattle.script_records.proofs.from.Reads as from-reads
+use Rattle.script_records.proofs.rule_of.Reads as rule-of-reads
+
+from-requires : tie.Need-from-requires
+from-requires c κs = search needs
+
+add-field8 : tie.Need-add-field8
+add-field8 c = search needs
 
 field8-requires : tie.Need-field8-requires
 field8-requires c κs = search needs
-
-field8-requires-2 : tie.Need-field8-requires-2
-field8-requires-2 c κs = search needs
-
-field32-requires : tie.Need-field32-requires
-field32-requires c κs = search needs
-
-field32-requires-2 : tie.Need-field32-requires-2
-field32-requires-2 c κs = search needs
-
-field8-requires-3 : tie.Need-field8-requires-3
-field8-requires-3 c κs = search needs
-
-field8-requires-4 : tie.Need-field8-requires-4
-field8-requires-4 c κs = search needs
-
-field8-requires-5 : tie.Need-field8-requires-5
-field8-requires-5 c κs = search needs
 
 cast-count : tie.Need-cast-count
 cast-count c = search needs
@@ -41,66 +39,85 @@ bad-rule-requires c κs = search needs
 
 returns : tie.Need-returns
 returns c =
-    let s = c .before .before .before .before .before .before .before .before .before .before .args .s .now in
-    rule-both s (c .bad-rule .ensures ∙ sym (ap ruleRead (record-bad s ruleForm (no-rule s (omega (arith, c .before .before .field85 .ensures))))))
+    let r = c .before .before .before in
+    let a = r .before .before .args in
+    rule-both (one (ruleForm (a .f)) (drop (a .at) (a .script .now)) (a .at))
+    (c .bad-rule .ensures
+    ∙ tells-stuck ruleRead (ruleForm (a .f)) (a .script .now) (a .at) (r .from .ensures) (no-rule _ (a .f) (c .before .before .field8 .ensures) refl (c .before .if1 .taken)))
+
+add-commands-part : tie.Need-add-commands-part
+add-commands-part c = search needs
 
 commands-part-requires : tie.Need-commands-part-requires
 commands-part-requires c κs = search needs
 
-whole-requires : tie.Need-whole-requires
-whole-requires c κs = search needs
-
-add-t17 : tie.Need-add-t17
-add-t17 c = search needs
-
-returns-2 : tie.Need-returns-2
-returns-2 c =
-    let s = c .before .before .before .before .before .before .before .before .before .before .before .before .before .args .s .now in
-    let k = c .before .before .before .before .before .field85 .ensures in
-    let r = c .before .before .before .commands-part in
-    let h : follow s (then (times (fieldAt s 75 3) commandForm) (λ cs. filled (slotsOf cs))) 78 ≡ reached (r .result .commands) (r .result .end) =
-    ap (λ (j : ℕ). follow s (then (times j commandForm) (λ cs. filled (slotsOf cs))) 78) (sym k) ∙ r .ensures .0 in
-    rule-both s (rw (
-      c .before .before .before .before .before .before .before .before .before .before .before .field8 .ensures,
-      c .before .before .before .before .before .before .before .before .before .before .field82 .ensures,
-      c .before .before .before .before .before .before .before .before .before .field32 .ensures,
-      c .before .before .before .before .before .before .before .before .field322 .ensures,
-      c .before .before .before .before .before .before .before .field83 .ensures,
-      c .before .before .before .before .before .before .field84 .ensures,
-      k,
-    )
-    (sym (ap ruleRead (record-whole s ruleForm (rule-at s (omega (arith, k)) h) (sym (c .before .whole .ensures) ∙ c .if2 .taken)))))
-
 bad-rule-requires-2 : tie.Need-bad-rule-requires-2
 bad-rule-requires-2 c κs = search needs
 
+returns-2 : tie.Need-returns-2
+returns-2 c =
+    let r = c .before .before .before .before .before in
+    let a = r .before .before .args in
+    let k = c .before .before .commands-part .ensures .0 in
+    rule-both (one (ruleForm (a .f)) (drop (a .at) (a .script .now)) (a .at))
+    (c .bad-rule2 .ensures
+    ∙ tells-stuck ruleRead (ruleForm (a .f)) (a .script .now) (a .at) (r .from .ensures)
+    (rule-stuck _ (a .f) (c .before .before .before .before .field8 .ensures) refl (c .before .before .before .if1 .left) (commands-stuck k (not-true _ (c .before .if2 .taken)))))
+
+end-of-requires : tie.Need-end-of-requires
+end-of-requires c κs = search needs
+
+enum-known-end : tie.Need-enum-known-end
+enum-known-end c = search needs
+
+rule-of-requires : tie.Need-rule-of-requires
+rule-of-requires c κs = search needs
+
+enum-told : tie.Need-enum-told
+enum-told c = search needs
+
+bad-rule-requires-3 : tie.Need-bad-rule-requires-3
+bad-rule-requires-3 c κs = search needs
+
 returns-3 : tie.Need-returns-3
 returns-3 c =
-    let s = c .before .before .before .before .before .before .before .before .before .before .before .before .before .before .args .s .now in
-    let k = c .before .before .before .before .before .before .field85 .ensures in
-    let r = c .before .before .before .before .commands-part in
-    let h : follow s (then (times (fieldAt s 75 3) commandForm) (λ cs. filled (slotsOf cs))) 78 ≡ reached (r .result .commands) (r .result .end) =
-    ap (λ (j : ℕ). follow s (then (times j commandForm) (λ cs. filled (slotsOf cs))) 78) (sym k) ∙ r .ensures .0 in
-    rule-both s (c .bad-rule2 .ensures
-    ∙ sym (ap ruleRead (record-not s ruleForm (rule-at s (omega (arith, k)) h) (sym (c .before .before .whole .ensures) ∙ c .before .if2 .left))))
+    let r = c .before .before .before .before .before .before .before .before .before in
+    let a = r .before .before .args in
+    let k = c .before .before .before .before .before .before .commands-part .ensures .0 in
+    rule-both (one (ruleForm (a .f)) (drop (a .at) (a .script .now)) (a .at))
+    (tells-at ruleRead (ruleForm (a .f)) (a .script .now) (a .at) (r .from .ensures)
+    (rule-at _ (a .f) (c .before .before .before .before .before .before .before .before .field8 .ensures) refl (c .before .before .before .before .before .before .before .if1 .left) (commands-found k (not-false _ (c .before .before .before .before .before .if2 .left))))
+    (sym (c .before .before .end .given .1) ∙ c .before .before .before .before .end-of .ensures) (rw (c .rule-of .ensures)))
+
+returns-4 : tie.Need-returns-4
+returns-4 c =
+    let r = c .before .before .before .before .before .before .before .before in
+    let a = r .before .before .args in
+    let k = c .before .before .before .before .before .commands-part .ensures .0 in
+    rule-both (one (ruleForm (a .f)) (drop (a .at) (a .script .now)) (a .at))
+    (c .bad-rule3 .ensures
+    ∙ tells-not ruleRead (ruleForm (a .f)) (a .script .now) (a .at) (r .from .ensures)
+    (rule-at _ (a .f) (c .before .before .before .before .before .before .before .field8 .ensures) refl (c .before .before .before .before .before .before .if1 .left) (commands-found k (not-false _ (c .before .before .before .before .if2 .left))))
+    (sym (c .before .enum-told .given .1) ∙ c .before .before .before .end-of .ensures))
 
 pub read-rule-spec : {M : Type 1} → statement M
 read-rule-spec =
     tie.close
     (tie.spec
+    from-requires
+    add-field8
     field8-requires
-    field8-requires-2
-    field32-requires
-    field32-requires-2
-    field8-requires-3
-    field8-requires-4
-    field8-requires-5
     cast-count
     bad-rule-requires
     returns
+    add-commands-part
     commands-part-requires
-    whole-requires
-    add-t17
-    returns-2
     bad-rule-requires-2
-    returns-3)
+    returns-2
+    end-of-requires
+    enum-known-end
+    rule-of-requires
+    enum-told
+    bad-rule-requires-3
+    returns-3
+    returns-4)

@@ -1,15 +1,21 @@
+-- Read at place 0, the place after a record is its size.
 use Prim.Native.Nat.{ℕ}
 use mathlib.Core.Path.{ap, _∙_}
-use Rattle.rules.specs.Script.{version1, takeAction, unread}
+use lib.ListN.{drop}
+use Rattle.rules.specs.Script.{unread}
 use Rattle.script_records.specs.Views.{actionSize}
 use Rattle.script_records.proofs.Laws.{action-size}
-use lib.ListN.{drop}
 use borrow.Author.Needs.{needs}
 use Rattle.script_records.proofs.rest.Statement.{statement}
 use Rattle.script_records.proofs.rest.Tie as tie
+use Rattle.script_records.proofs.rest.Reads as reads
+use Rattle.script_records.proofs.rest.Lts as lts
+use Rattle.script_records.proofs.from.Reads as from-reads
+use Rattle.script_records.proofs.read_action.Reads as read-action-reads
+use Rattle.script_records.proofs.size_of.Reads as size-of-reads
 
-take-action-requires : tie.Need-take-action-requires
-take-action-requires c κs = search needs
+read-action-requires : tie.Need-read-action-requires
+read-action-requires c κs = search needs
 
 size-of-requires : tie.Need-size-of-requires
 size-of-requires c κs = search needs
@@ -20,10 +26,9 @@ from-requires c κs = search needs
 returns : tie.Need-returns
 unfolding unread
 returns c =
-    let s = c .before .before .before .before .args .s .now in
+    let a = c .before .before .before .before .args in
     c .from .ensures
-    ∙ ap (λ (n : ℕ). drop n s)
-    (c .before .size-of .ensures ∙ ap actionSize (c .before .before .take-action .ensures .0) ∙ action-size (takeAction version1 s))
+    ∙ ap (λ (n : ℕ). drop n (a .s .now)) (c .before .size-of .ensures ∙ ap actionSize (c .before .before .read-action .ensures .0) ∙ action-size (a .f) (a .s .now))
 
 pub rest-spec : {M : Type 1} → statement M
-rest-spec = tie.close (tie.spec take-action-requires size-of-requires from-requires returns)
+rest-spec = tie.close (tie.spec read-action-requires size-of-requires from-requires returns)

@@ -1,0 +1,16 @@
+-- There is one version.
+use mathlib.Core.Bool.{or-false}
+use mathlib.Core.Path.{sym}
+use lib.Dec.{eqb}
+use Rattle.lists.specs.Lists.{any}
+use Rattle.script_records.proofs.known.Statement.{statement}
+use Rattle.script_records.proofs.known.Tie as tie
+use Rattle.script_records.proofs.known.Reads as reads
+use Rattle.script_records.proofs.known.Lts as lts
+
+returns : tie.Need-returns
+unfolding any
+returns c = sym (or-false (eqb (c .args .version) 1))
+
+pub known-spec : {M : Type 1} → statement M
+known-spec = tie.close (tie.spec returns)

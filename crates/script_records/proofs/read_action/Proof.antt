@@ -1,0 +1,111 @@
+-- The action's part from the place on, and its end.
+use native.Mathlib.Omega.{arith}
+use mathlib.Core.Path.{_≡_, refl, sym, ap, _∙_}
+use lib.ListN.{drop}
+use Rattle.layout.specs.Read.{one}
+use Rattle.rules.specs.Script.{actionForm}
+use Rattle.script_records.specs.Views.{actionRead, actionEnd}
+use Rattle.script_records.proofs.Laws.{tells-at, tells-not, tells-stuck, action-found, action-ended, action-stuck}
+use Rattle.script_records.proofs.Says.{action-both}
+use borrow.Author.Needs.{needs}
+use Rattle.script_records.proofs.read_action.Statement.{statement}
+use Rattle.script_records.proofs.read_action.Tie as tie
+use Rattle.script_records.proofs.read_action.Reads as reads
+use Rattle.script_records.proofs.read_action.Lts as lts
+use Rattle.script_records.proofs.action_part.Reads as action-part-reads
+use Rattle.script_records.proofs.end_of.Reads as end-of-reads
+use Rattle.script_records.proofs.from.Reads as from-reads
+
+from-requires : tie.Need-from-requires
+from-requires c κs = search needs
+
+action-part-requires : tie.Need-action-part-requires
+action-part-requires c κs = search needs
+
+enum-known-x : tie.Need-enum-known-x
+enum-known-x c = search needs
+
+end-of-requires : tie.Need-end-of-requires
+end-of-requires c κs = omega (arith, c .before .before .before .action-part .ensures .1, ap actionEnd (c .before .x .given .1))
+
+enum-known-end : tie.Need-enum-known-end
+enum-known-end c = search needs
+
+enum-told : tie.Need-enum-told
+enum-told c = search needs
+
+enum-known-x-2 : tie.Need-enum-known-x-2
+enum-known-x-2 c = search needs
+
+end-of-requires-2 : tie.Need-end-of-requires-2
+end-of-requires-2 c κs = omega (arith, c .before .before .before .action-part .ensures .1, ap actionEnd (c .before .x2 .given .1))
+
+enum-known-end-2 : tie.Need-enum-known-end-2
+enum-known-end-2 c = search needs
+
+enum-told-2 : tie.Need-enum-told-2
+enum-told-2 c = search needs
+
+enum-told-3 : tie.Need-enum-told-3
+enum-told-3 c = search needs
+
+returns : tie.Need-returns
+returns c =
+    let r = c .before .before .before .before .before .before .before in
+    let a = r .before .before .before .args in
+    action-both (one (actionForm (a .f)) (drop (a .at) (a .script .now)) (a .at))
+    (tells-at actionRead (actionForm (a .f)) (a .script .now) (a .at) (r .before .from .ensures)
+    (action-found (sym (c .before .before .before .before .before .x .given .1) ∙ r .action-part .ensures .0)) (sym (c .before .end .given .1) ∙ c .before .before .before .end-of .ensures) refl)
+
+returns-2 : tie.Need-returns-2
+returns-2 c =
+    let r = c .before .before .before .before .before .before in
+    let a = r .before .before .before .args in
+    action-both (one (actionForm (a .f)) (drop (a .at) (a .script .now)) (a .at))
+    (tells-not actionRead (actionForm (a .f)) (a .script .now) (a .at) (r .before .from .ensures)
+    (action-found (sym (c .before .before .before .before .x .given .1) ∙ r .action-part .ensures .0)) (sym (c .enum-told .given .1) ∙ c .before .before .end-of .ensures))
+
+returns-3 : tie.Need-returns-3
+returns-3 c =
+    let r = c .before .before .before .before .before .before .before in
+    let a = r .before .before .before .args in
+    action-both (one (actionForm (a .f)) (drop (a .at) (a .script .now)) (a .at))
+    (tells-at actionRead (actionForm (a .f)) (a .script .now) (a .at) (r .before .from .ensures)
+    (action-ended (sym (c .before .before .before .before .before .x2 .given .1) ∙ r .action-part .ensures .0)) (sym (c .before .end2 .given .1) ∙ c .before .before .before .end-of2 .ensures) refl)
+
+returns-4 : tie.Need-returns-4
+returns-4 c =
+    let r = c .before .before .before .before .before .before in
+    let a = r .before .before .before .args in
+    action-both (one (actionForm (a .f)) (drop (a .at) (a .script .now)) (a .at))
+    (tells-not actionRead (actionForm (a .f)) (a .script .now) (a .at) (r .before .from .ensures)
+    (action-ended (sym (c .before .before .before .before .x2 .given .1) ∙ r .action-part .ensures .0)) (sym (c .enum-told2 .given .1) ∙ c .before .before .end-of2 .ensures))
+
+returns-5 : tie.Need-returns-5
+returns-5 c =
+    let r = c .before .before in
+    let a = r .before .before .before .args in
+    action-both (one (actionForm (a .f)) (drop (a .at) (a .script .now)) (a .at))
+    (tells-stuck actionRead (actionForm (a .f)) (a .script .now) (a .at) (r .before .from .ensures)
+    (action-stuck (sym (c .enum-told3 .given .1) ∙ r .action-part .ensures .0)))
+
+pub read-action-spec : {M : Type 1} → statement M
+read-action-spec =
+    tie.close
+    (tie.spec
+    from-requires
+    action-part-requires
+    enum-known-x
+    end-of-requires
+    enum-known-end
+    enum-told
+    enum-known-x-2
+    end-of-requires-2
+    enum-known-end-2
+    enum-told-2
+    enum-told-3
+    returns
+    returns-2
+    returns-3
+    returns-4
+    returns-5)
