@@ -2,8 +2,8 @@
 -- Assumes nothing.
 use borrow.Author.Needs.{needs}
 use Rattle.lists.specs.Lists.{pad}
-use Rattle.script_lists.proofs.bad_tables.Statement.{statement}
-use Rattle.script_lists.proofs.bad_tables.Tie as tie
+use Rattle.script_opening.proofs.bad_tables.Statement.{statement}
+use Rattle.script_opening.proofs.bad_tables.Tie as tie
 
 zero-table-requires : tie.Need-zero-table-requires
 zero-table-requires c κs = search needs

@@ -2,8 +2,8 @@
 -- Assumes nothing.
 use borrow.Author.Needs.{needs}
 use Rattle.lists.specs.Lists.{pad}
-use Rattle.script_lists.proofs.bad_envelopes.Statement.{statement}
-use Rattle.script_lists.proofs.bad_envelopes.Tie as tie
+use Rattle.script_opening.proofs.bad_envelopes.Statement.{statement}
+use Rattle.script_opening.proofs.bad_envelopes.Tie as tie
 
 zero-envelope-requires : tie.Need-zero-envelope-requires
 zero-envelope-requires c κs = search needs
