@@ -1,3 +1,3 @@
-pub mod Due
-pub mod Answers
+pub mod Actions
+pub mod Whole
 pub mod Says

@@ -1,4 +1,4 @@
--- The answers that say what reading a script, or a part of it, found.
+-- The answer that says whether a script, or a part of it, can be read.
 -- Assumes nothing.
 use mathlib.Core.List.{[], _∷_}
 use Rattle.answers.specs.Answers.{answerNumber}
