@@ -1,61 +1,45 @@
--- `open` meets its contract: a header that is found has at most 8 actors.
--- Assumes nothing.
-use mathlib.Core.Path.{sym, ap, _∙_}
-use Rattle.rules.specs.Script.{version1, headerForm}
-use Rattle.script_parts.proofs.Readings.{header-found, header-bad}
+-- What the opening's answer holds is what was read, and it fits its arrays; so the start is that of the lists.
+use borrow.Author.Tests.{not-true, not-false}
+use mathlib.Core.Path.{_≡_, sym, ap, _∙_}
+use Rattle.rules.specs.Script.{versions, openingFrom}
+use Rattle.rules.specs.Start.{blank}
+use Rattle.system.specs.Views.{systemOf}
+use Rattle.system_parts.specs.Views.{answeredOf}
+use Rattle.script_opening.proofs.Readings.{told-bad}
+use Rattle.script_opening.proofs.Lists.{opening-tells}
 use Rattle.replay_start.specs.Views.{openedOf}
-use Rattle.replay_start.proofs.Laws.{no-header, header-read, few-actors}
+use Rattle.replay_start.proofs.Laws.{opened-is}
 use borrow.Author.Needs.{needs}
 use Rattle.replay_start.proofs.open.Statement.{statement}
 use Rattle.replay_start.proofs.open.Tie as tie
+use Rattle.replay_start.proofs.open.Reads as reads
+use Rattle.replay_start.proofs.open.Lts as lts
+use Rattle.replay_start.proofs.unreadable.Reads as unreadable-reads
+use Rattle.script_opening.proofs.read_opening.Reads as read-opening-reads
+use Rattle.system_start.proofs.start.Reads as start-reads
 
-header-at-requires : tie.Need-header-at-requires
-header-at-requires c κs = search needs
-
-enum-known-h : tie.Need-enum-known-h
-enum-known-h c = search needs
-
-cast-after-header : tie.Need-cast-after-header
-cast-after-header c = search needs
-
-after-header-requires : tie.Need-after-header-requires
-after-header-requires c κs =
-    let k = c .before .before in
-    let r = k .before .before in
-    let a = r .before .before .args in
-    few-actors version1 (a .s .now) 0 (header-found (a .s .now) 0 (headerForm version1) (sym (k .h .given .1) ∙ r .header-at .ensures .0))
-
-enum-known-h-2 : tie.Need-enum-known-h-2
-enum-known-h-2 c = search needs
+read-opening-requires : tie.Need-read-opening-requires
+read-opening-requires c κs = search needs
 
 unreadable-requires : tie.Need-unreadable-requires
 unreadable-requires c κs = search needs
 
 returns : tie.Need-returns
 returns c =
-    let k = c .before .before .before in
-    let r = k .before .before in
-    let a = r .before .before .args in
-    c .after-header .ensures
-    ∙ ap openedOf (sym (header-read version1 (a .s .now) 0 (header-found (a .s .now) 0 (headerForm version1) (sym (k .h .given .1) ∙ r .header-at .ensures .0))))
+    let r = c .before .before .before .before in
+    let s = r .before .before .args .script .now in
+    c .unreadable .ensures
+    ∙ sym (ap openedOf (told-bad opening-tells (openingFrom versions) s 0 (r .read-opening .ensures .0) (not-true _ (c .before .if1 .taken))))
+
+start-requires : tie.Need-start-requires
+start-requires c κs = search needs
 
 returns-2 : tie.Need-returns-2
 returns-2 c =
-    let k = c .before .before in
-    let r = k .before .before in
-    let a = r .before .before .args in
-    c .unreadable .ensures
-    ∙ ap openedOf (sym (no-header version1 (a .s .now) 0 (header-bad (a .s .now) 0 (headerForm version1) (sym (k .h2 .given .1) ∙ r .header-at .ensures .0))))
+    let r = c .before .before .before .before in
+    let s = r .before .before .args .script .now in
+    opened-is s (r .read-opening .ensures .0) (not-false _ (c .before .if1 .left)) (c .start .ensures)
 
 pub open-spec : {M : Type 1} → statement M
 open-spec =
-    tie.close
-    (tie.spec
-    header-at-requires
-    enum-known-h
-    cast-after-header
-    after-header-requires
-    enum-known-h-2
-    unreadable-requires
-    returns
-    returns-2)
+    tie.close (tie.spec read-opening-requires unreadable-requires returns start-requires returns-2)
