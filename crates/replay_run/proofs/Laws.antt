@@ -1,4 +1,5 @@
--- One action of a run: what is read, what the core gave, and what is left to write.
+-- Why a run writes what it should: each turn reads one action more, the core takes the rules' step, and its line is the next of what is
+-- left to write.
 -- Assumes nothing.
 use Prim.Native.Nat.{ℕ, zero, suc, _+_, _*_, _≤_, _<_}
 use native.Mathlib.Omega.{arith}
@@ -11,7 +12,9 @@ use lib.Dec.{eqb}
 use borrow.Author.Tests.{eqb-true}
 use Rattle.lists.specs.Lists.{all}
 use Rattle.lists.proofs.Members.{any-in, all-in}
+use Rattle.types.specs.Capacities.{mostEntries}
 use Rattle.types.specs.declared.Action.{Action}
+use Rattle.types.specs.declared.Format.{Format}
 use Rattle.answers.specs.declared.Answer.{Answer}
 use Rattle.answers.specs.Answers.{answerNumber, answerOf}
 use Rattle.layout.specs.Read.{Reading, read, badAt, one}
@@ -20,7 +23,7 @@ use Rattle.rules.specs.Network.{len}
 use Rattle.rules.specs.System as rules
 use Rattle.rules.specs.Run.{step, answer, after, answers, Totals, counted, totals}
 use Rattle.rules.specs.WellFormed.{wellFormed}
-use Rattle.rules.specs.Script.{Version, version1, Item, end, item, actionForm, actionsFrom}
+use Rattle.rules.specs.Script.{Item, end, item, actionForm, actionsFrom}
 use Rattle.rules.specs.Program.{answerLine, size, actionLines, doneLine, line, doneWord}
 use Rattle.rules.proofs.Laws.{Holds}
 use Rattle.rules.proofs.Answers.{act-answers, formed-step, stepNumbers}
@@ -30,11 +33,10 @@ use Rattle.net_network.specs.Views.{netView}
 use Rattle.link_inner.specs.declared.Table.{Table}
 use Rattle.sys_actor.specs.declared.Actor.{Actor}
 use Rattle.parts.specs.Parts.{systems}
-use Rattle.script_check.proofs.Due.{action-sized}
-use Rattle.script_parts.specs.declared.ActionAt.{ActionAt}
-use Rattle.script_parts.specs.declared.ActionAt.the-variants.{Act, End, Bad}
-use Rattle.script_parts.specs.Views.{actionAt}
-use Rattle.script_parts.proofs.Whole.{Coming, last, next, coming, past}
+use Rattle.script_records.specs.declared.ActionRead.{ActionRead}
+use Rattle.script_records.specs.declared.ActionRead.the-variants.{Act, End, Bad}
+use Rattle.script_records.specs.Views.{actionRead}
+use Rattle.script_check.proofs.Actions.{Coming, last, next, coming, span}
 use Rattle.replay_lines.specs.Pieces.{Fits, Piece}
 use Rattle.replay_lines.proofs.Laws.{none, length-left, fits-first, fits-then, piece-then}
 use Rattle.steps.specs.declared.Touched.{Touched}
@@ -108,58 +110,52 @@ unfolding actionLines answers doneLine
 rest-end m t = ap doneLine (plus-none t)
 
 -- ---- what was read
-pub record Acts (s : List ℕ) (at : ℕ) (ys : List ℕ) (q : ℕ) (l : List Action) (a : Action) (r : ℕ) : Type 0 where
+pub record Acts (f : Format) (s : List ℕ) (at : ℕ) (ys : List ℕ) (q : ℕ) (l : List Action) (a : Action) (r : ℕ) : Type 0 where
   pub more : List Action
   pub all : l ≡ a ∷ more
-  pub reads : actionsFrom version1 (drop r s) r ≡ read more ys q
+  pub reads : actionsFrom f (drop r s) r ≡ read more ys q
   pub on : at < r
   pub within : r ≤ length s
   pub here : at < length s
 
-pub span : (s : List ℕ) (at : ℕ) {i : Item} (r : ℕ) → one (actionForm version1) (drop at s) at ≡ read i (drop r s) r → (at < r) × (r ≤ length s) × (at < length s)
-span s at r h =
-    let w = past (actionForm version1) (drop at s) at (action-sized version1 (drop at s)) h in
-    let n = length-drop at s in
-    (w .0, omega (arith, w .0, w .1, n), omega (arith, w .0, w .1, n))
-
-module _ (s : List ℕ) (at : ℕ) {ys : List ℕ} {q : ℕ} where
-  acts-of : {l : List Action} (a : Action) (r : ℕ) → Coming version1 s at ys q l → actionAt (one (actionForm version1) (drop at s) at) ≡ Act a r → Acts s at ys q l a r
+module _ (f : Format) (s : List ℕ) (at : ℕ) {ys : List ℕ} {q : ℕ} where
+  acts-of : {l : List Action} (a : Action) (r : ℕ) → Coming f s at ys q l → actionRead (one (actionForm f) (drop at s) at) ≡ Act a r → Acts f s at ys q l a r
   acts-of a r (last p h) e =
-      let f : End p ≡ Act a r = ap actionAt (sym h) ∙ e in
+      let o : End p ≡ Act a r = ap actionRead (sym h) ∙ e in
       let z : _≡_ {A = ℕ} 0 1 = cc in
       absurd (omega arith)
   acts-of a r (next {a = b} p {l = more} h g) e =
-      let f : Act b p ≡ Act a r = ap actionAt (sym h) ∙ e in
+      let o : Act b p ≡ Act a r = ap actionRead (sym h) ∙ e in
       let x : b ≡ a = cc in
       let y : p ≡ r = cc in
-      let w = span s at p h in
-      subst (λ (k : ℕ). Acts s at ys q (b ∷ more) a k) y (record { more = more; all = ap (λ (c : Action). c ∷ more) x; reads = g; on = w .0; within = w .1; here = w .2 })
+      let w = span f s at p h in
+      subst (λ (k : ℕ). Acts f s at ys q (b ∷ more) a k) y (record { more = more; all = ap (λ (c : Action). c ∷ more) x; reads = g; on = w .0; within = w .1; here = w .2 })
 
-  pub acts : {l : List Action} (a : Action) (r : ℕ) → actionsFrom version1 (drop at s) at ≡ read l ys q → actionAt (one (actionForm version1) (drop at s) at) ≡ Act a r → Acts s at ys q l a r
-  acts a r g e = acts-of a r (coming version1 s at g) e
+  pub acts : {l : List Action} (a : Action) (r : ℕ) → actionsFrom f (drop at s) at ≡ read l ys q → actionRead (one (actionForm f) (drop at s) at) ≡ Act a r → Acts f s at ys q l a r
+  acts a r g e = acts-of a r (coming f s at g) e
 
-  ends-of : {l : List Action} (r : ℕ) → Coming version1 s at ys q l → actionAt (one (actionForm version1) (drop at s) at) ≡ End r → (l ≡ []) × (at < length s)
-  ends-of r (last p h) e = (refl, span s at p h .2)
+  ends-of : {l : List Action} (r : ℕ) → Coming f s at ys q l → actionRead (one (actionForm f) (drop at s) at) ≡ End r → (l ≡ []) × (at < length s)
+  ends-of r (last p h) e = (refl, span f s at p h .2)
   ends-of r (next {a = b} p h g) e =
-      let f : Act b p ≡ End r = ap actionAt (sym h) ∙ e in
+      let o : Act b p ≡ End r = ap actionRead (sym h) ∙ e in
       let z : _≡_ {A = ℕ} 0 1 = cc in
       absurd (omega arith)
 
-  pub ends : {l : List Action} (r : ℕ) → actionsFrom version1 (drop at s) at ≡ read l ys q → actionAt (one (actionForm version1) (drop at s) at) ≡ End r → (l ≡ []) × (at < length s)
-  ends r g e = ends-of r (coming version1 s at g) e
+  pub ends : {l : List Action} (r : ℕ) → actionsFrom f (drop at s) at ≡ read l ys q → actionRead (one (actionForm f) (drop at s) at) ≡ End r → (l ≡ []) × (at < length s)
+  ends r g e = ends-of r (coming f s at g) e
 
-  never-of : {l : List Action} (r : ℕ) → Coming version1 s at ys q l → actionAt (one (actionForm version1) (drop at s) at) ≡ Bad r → ⊥
+  never-of : {l : List Action} (r : ℕ) → Coming f s at ys q l → actionRead (one (actionForm f) (drop at s) at) ≡ Bad r → ⊥
   never-of r (last p h) e =
-      let f : End p ≡ Bad r = ap actionAt (sym h) ∙ e in
+      let o : End p ≡ Bad r = ap actionRead (sym h) ∙ e in
       let z : _≡_ {A = ℕ} 0 1 = cc in
       absurd (omega arith)
   never-of r (next {a = b} p h g) e =
-      let f : Act b p ≡ Bad r = ap actionAt (sym h) ∙ e in
+      let o : Act b p ≡ Bad r = ap actionRead (sym h) ∙ e in
       let z : _≡_ {A = ℕ} 0 1 = cc in
       absurd (omega arith)
 
-  pub never : {l : List Action} (r : ℕ) → actionsFrom version1 (drop at s) at ≡ read l ys q → actionAt (one (actionForm version1) (drop at s) at) ≡ Bad r → ⊥
-  never r g e = never-of r (coming version1 s at g) e
+  pub never : {l : List Action} (r : ℕ) → actionsFrom f (drop at s) at ≡ read l ys q → actionRead (one (actionForm f) (drop at s) at) ≡ Bad r → ⊥
+  never r g e = never-of r (coming f s at g) e
 
 -- ---- the step that the core took
 number-back : (n : ℕ) → stepNumbers n ≡ true → answerNumber (answerOf n) ≡ n
@@ -213,22 +209,22 @@ module _ (s : System) where
 
 -- ---- the loop
 -- After some actions: the system now, what is left to do, and what was written.
-pub record Turn (script : List ℕ) (from : ℕ) (s₀ : System) (out₀ : List ℕ) (place : ℕ) (write : Bool) (s : System) (t : Tally) (at : ℕ) (end : ℕ) (out : List ℕ) : Type 0 where
-  pub runs : Runs script from s₀ out₀ place write
+pub record Turn (script : List ℕ) (from : ℕ) (f : Format) (s₀ : System) (out₀ : List ℕ) (place : ℕ) (write : Bool) (s : System) (t : Tally) (at : ℕ) (end : ℕ) (out : List ℕ) : Type 0 where
+  pub runs : Runs script from f s₀ out₀ place write
   pub ready : Ready s
   pub actions : List Action
   pub left : List ℕ
   pub last : ℕ
-  pub reads : actionsFrom version1 (drop at script) at ≡ read actions left last
+  pub reads : actionsFrom f (drop at script) at ≡ read actions left last
   pub told : List ℕ
   pub piece : Piece write place told out₀ end out
   pub same : runText (sysView s₀) (runs .actions) ≡ told ++ restText (sysView s) (totalsIn t) actions
   pub few : t .next + t .ignored + t .refused ≤ at
   pub wide : end ≤ 80 + 80 * at
 
-pub turn-start : (script : List ℕ) (from : ℕ) (s : System) (out : List ℕ) (place : ℕ) (write : Bool) (h : Runs script from s out place write)
-    → Turn script from s out place write s (record { next = 0; ignored = 0; refused = 0 }) from place out
-turn-start script from s out place write h = record {
+pub turn-start : (script : List ℕ) (from : ℕ) (f : Format) (s : System) (out : List ℕ) (place : ℕ) (write : Bool) (h : Runs script from f s out place write)
+    → Turn script from f s out place write s (record { next = 0; ignored = 0; refused = 0 }) from place out
+turn-start script from f s out place write h = record {
   runs = h;
   ready = h .ready;
   actions = h .actions;
@@ -242,8 +238,8 @@ turn-start script from s out place write h = record {
   wide = omega (arith, h .small);
 }
 
-module _ {script : List ℕ} {from : ℕ} {s₀ : System} {out₀ : List ℕ} {place : ℕ} {write : Bool} {s : System} {t : Tally} {at end : ℕ} {out : List ℕ}
-    (g : Turn script from s₀ out₀ place write s t at end out) where
+module _ {script : List ℕ} {from : ℕ} {f : Format} {s₀ : System} {out₀ : List ℕ} {place : ℕ} {write : Bool} {s : System} {t : Tally} {at end : ℕ} {out : List ℕ}
+    (g : Turn script from f s₀ out₀ place write s t at end out) where
   room : Fits write place (g .told ++ restText (sysView s) (totalsIn t) (g .actions)) out₀
   room = subst (λ (l : List ℕ). Fits write place l out₀) (g .same) (g .runs .fits)
 
@@ -255,9 +251,9 @@ module _ {script : List ℕ} {from : ℕ} {s₀ : System} {out₀ : List ℕ} {p
   kept-length = length-left (fits-first write place (g .told) _ out₀ room) (g .piece)
 
   -- ---- one action more
-  module _ (a : Action) (r : ℕ) (seen : actionAt (one (actionForm version1) (drop at script) at) ≡ Act a r) where
-    abbrev pub going : Acts script at (g .left) (g .last) (g .actions) a r
-    going = acts script at a r (g .reads) seen
+  module _ (a : Action) (r : ℕ) (seen : actionRead (one (actionForm f) (drop at script) at) ≡ Act a r) where
+    abbrev pub going : Acts f script at (g .left) (g .last) (g .actions) a r
+    going = acts f script at a r (g .reads) seen
 
     module _ (x : Touched) (k : ℕ) (done-so : writtenBack s k x ≡ answeredOf s (systems (rules.act base (sysView s) a))) where
       abbrev text : List ℕ
@@ -273,7 +269,7 @@ module _ {script : List ℕ} {from : ℕ} {s₀ : System} {out₀ : List ℕ} {p
       line-fits = fits-first write end text later out (subst (λ (l : List ℕ). Fits write end l out) splits left-fits)
 
       pub turn-on : {e : ℕ} {out′ : List ℕ} → Piece write end text out e out′ → e ≤ end + 80
-          → Turn script from s₀ out₀ place write (cur s (g .ready) a x k done-so) (tallied (answerNumber (x .answer)) t) r e out′
+          → Turn script from f s₀ out₀ place write (cur s (g .ready) a x k done-so) (tallied (answerNumber (x .answer)) t) r e out′
       turn-on {e} p h = record {
         runs = g .runs;
         ready = next-ready s (g .ready) a x k done-so;
@@ -291,9 +287,9 @@ module _ {script : List ℕ} {from : ℕ} {s₀ : System} {out₀ : List ℕ} {p
       }
 
   -- ---- the end
-  module _ (r : ℕ) (seen : actionAt (one (actionForm version1) (drop at script) at) ≡ End r) where
+  module _ (r : ℕ) (seen : actionRead (one (actionForm f) (drop at script) at) ≡ End r) where
     abbrev pub over : (g .actions ≡ []) × (at < length script)
-    over = ends script at r (g .reads) seen
+    over = ends f script at r (g .reads) seen
 
     abbrev pub closing : List ℕ
     closing = line doneWord (t .next ∷ t .ignored ∷ t .refused ∷ [])
@@ -305,17 +301,17 @@ module _ {script : List ℕ} {from : ℕ} {s₀ : System} {out₀ : List ℕ} {p
     end-fits = subst (λ (l : List ℕ). Fits write end l out) closes left-fits
 
     pub turn-end : {e : ℕ} {out′ : List ℕ} → Piece write end closing out e out′
-        → (l : List Action) (ys : List ℕ) (q : ℕ) → actionsFrom version1 (drop from script) from ≡ read l ys q → Piece write place (runText (sysView s₀) l) out₀ e out′
+        → (l : List Action) (ys : List ℕ) (q : ℕ) → actionsFrom f (drop from script) from ≡ read l ys q → Piece write place (runText (sysView s₀) l) out₀ e out′
     turn-end {e} {out′} p l ys q h =
-        let f : read (g .runs .actions) (g .runs .left) (g .runs .end) ≡ read l ys q = sym (g .runs .reads) ∙ h in
+        let o : read (g .runs .actions) (g .runs .left) (g .runs .end) ≡ read l ys q = sym (g .runs .reads) ∙ h in
         let x : g .runs .actions ≡ l = cc in
         let w : runText (sysView s₀) (g .runs .actions) ≡ g .told ++ closing = g .same ∙ ap (λ (z : List ℕ). g .told ++ z) closes in
         subst (λ (z : List ℕ). Piece write place z out₀ e out′) (sym w ∙ ap (runText (sysView s₀)) x)
         (piece-then (g .told) closing (subst (λ (z : List ℕ). Fits write place z out₀) w (g .runs .fits)) (g .piece) p)
 
-  pub no-bad : (r : ℕ) → actionAt (one (actionForm version1) (drop at script) at) ≡ Bad r → ⊥
-  no-bad r e = never script at r (g .reads) e
+  pub no-bad : (r : ℕ) → actionRead (one (actionForm f) (drop at script) at) ≡ Bad r → ⊥
+  no-bad r e = never f script at r (g .reads) e
 
 -- The network of a system that is ready fits its array.
-pub net-fits : (s : System) → Ready s → s .network .used ≤ 128
+pub net-fits : (s : System) → Ready s → s .network .used ≤ mostEntries
 net-fits s r = net-ready s (r .laid) (r .formed) .laid .fit

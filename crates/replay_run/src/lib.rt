@@ -5,9 +5,10 @@ use act::seat;
 use answers::number_of;
 use replay_lines::answer_line;
 use replay_lines::done_line;
-use script_parts::ActionAt;
-use script_parts::action_at;
+use script_records::ActionRead;
+use script_records::read_action;
 use system::System;
+use types::Format;
 ghost use mathlib.Core.Path.{_≡_};
 ghost use Prim.Native.Nat.{_+_, _<_};
 ghost use Rattle.replay_run.specs.Views.{tallied, Runs, Writes};
@@ -49,13 +50,14 @@ fn count_answer(t: Tally, number: u64) -> Tally
 pub fn run(
     script: &[u8],
     from: usize,
+    f: Format,
     s: System,
     out: &mut [u8],
     place: usize,
     write: bool,
 ) -> usize
-    requires { ⌜ Runs (now script) from s (now out) place write ⌝ }
-    ensures { λ r. ⌜ Writes (now (script .entry)) from s (now (out .entry)) place write r (now (out .exit)) ⌝ }
+    requires { ⌜ Runs (now script) from f s (now out) place write ⌝ }
+    ensures { λ r. ⌜ Writes (now (script .entry)) from f s (now (out .entry)) place write r (now (out .exit)) ⌝ }
 {
     let count = s.count;
     let tables = s.tables;
@@ -69,9 +71,9 @@ pub fn run(
     let mut at = from;
     let mut end = place;
     loop {
-        let x = action_at(script, at);
+        let x = read_action(script, at, f);
         match x {
-            ActionAt::Act(a, after) => {
+            ActionRead::Act(a, after) => {
                 let i = seat(count, a);
                 let actor = actors[i];
                 let table = tables[i];
@@ -87,10 +89,10 @@ pub fn run(
                 actors[i] = own;
                 at = after;
             }
-            ActionAt::End(_) => {
+            ActionRead::End(_) => {
                 return done_line(out, end, write, totals.next, totals.ignored, totals.refused);
             }
-            ActionAt::Bad(_) => {
+            ActionRead::Bad(_) => {
                 return end;
             }
         }

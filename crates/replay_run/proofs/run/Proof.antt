@@ -1,15 +1,17 @@
+-- Each turn is one action: the place goes up by what was read, the core gives the rules' step, and its line is written.
 use Prim.Native.Nat.{_-_, _<_}
 use native.Mathlib.Omega.{arith}
 use mathlib.Core.Path.{_≡_, sym, ap, _∙_}
 use lib.ListN.{length, getD, drop}
+use Rattle.types.specs.Capacities.{mostActors}
 use Rattle.types.specs.declared.Action.{Action}
 use Rattle.layout.specs.Read.{one}
 use Rattle.rules.specs.Outcome.{base}
-use Rattle.rules.specs.Script.{version1, actionForm}
+use Rattle.rules.specs.Script.{actionForm}
 use Rattle.rules.specs.System as rules
 use Rattle.parts.specs.Parts.{systems}
-use Rattle.script_parts.specs.declared.ActionAt.the-variants.{Act, End}
-use Rattle.script_parts.specs.Views.{actionAt}
+use Rattle.script_records.specs.declared.ActionRead.the-variants.{Act, End}
+use Rattle.script_records.specs.Views.{actionRead}
 use Rattle.replay_lines.proofs.Laws.{length-left}
 use Rattle.system.specs.declared.System.{System}
 use Rattle.system.specs.Views.{sysView}
@@ -30,23 +32,23 @@ use Rattle.replay_lines.proofs.done_line.Reads as done-line-reads
 use Rattle.net_network.proofs.len.Reads as len-reads
 use Rattle.replay_run.proofs.count_answer.Reads as count-answer-reads
 use Rattle.answers.proofs.number_of.Reads as number-of-reads
-use Rattle.script_parts.proofs.action_at.Reads as action-at-reads
+use Rattle.script_records.proofs.read_action.Reads as read-action-reads
 
 abbrev Inv-loop : tie.InvT-loop
-Inv-loop script from out₀ place write count tables network₀ actors₀ totals₀ at₀ end₀ out network actors totals at end =
-    Turn script from (record { count = count; network = network₀; actors = actors₀; tables = tables }) out₀ place write (record { count = count; network = network; actors = actors; tables = tables }) totals at end out
+Inv-loop script from f out₀ place write count tables network₀ actors₀ totals₀ at₀ end₀ out network actors totals at end =
+    Turn script from f (record { count = count; network = network₀; actors = actors₀; tables = tables }) out₀ place write (record { count = count; network = network; actors = actors; tables = tables }) totals at end out
 
 abbrev μ-loop : tie.MeasureT-loop
-μ-loop script from out₀ place write count tables network₀ actors₀ totals₀ at₀ end₀ out network actors totals at end =
+μ-loop script from f out₀ place write count tables network₀ actors₀ totals₀ at₀ end₀ out network actors totals at end =
     length script - at
 
 loop-holds : tie.Need-loop-holds Inv-loop μ-loop
 loop-holds c =
     let e = c .before .before .before .before .before in
-    turn-start (e .args .script .now) (e .args .from) (e .args .s) (e .args .out .now) (e .args .place) (e .args .write) (e .pre)
+    turn-start (e .args .script .now) (e .args .from) (e .args .f) (e .args .s) (e .args .out .now) (e .args .place) (e .args .write) (e .pre)
 
-action-at-requires : tie.Need-action-at-requires Inv-loop μ-loop
-action-at-requires c κs = search needs
+read-action-requires : tie.Need-read-action-requires Inv-loop μ-loop
+read-action-requires c κs = c .loop .inv .runs .fine
 
 enum-known-x : tie.Need-enum-known-x Inv-loop μ-loop
 enum-known-x c = search needs
@@ -55,19 +57,19 @@ seat-requires : tie.Need-seat-requires Inv-loop μ-loop
 seat-requires c κs = search needs
 
 -- the system at the turn
-abbrev now-at : (c : lts.After-seat (action-at-reads.Asked, action-at-reads.Learnt, seat-reads.Asked, seat-reads.Learnt, act-reads.Asked, act-reads.Learnt, number-of-reads.Asked, number-of-reads.Learnt, len-reads.Asked, len-reads.Learnt, answer-line-reads.Asked, answer-line-reads.Learnt, count-answer-reads.Asked, count-answer-reads.Learnt, done-line-reads.Asked, done-line-reads.Learnt) reads.Pre reads.Post Inv-loop μ-loop) → System
+abbrev now-at : (c : lts.After-seat (read-action-reads.Asked, read-action-reads.Learnt, seat-reads.Asked, seat-reads.Learnt, act-reads.Asked, act-reads.Learnt, number-of-reads.Asked, number-of-reads.Learnt, len-reads.Asked, len-reads.Learnt, answer-line-reads.Asked, answer-line-reads.Learnt, count-answer-reads.Asked, count-answer-reads.Learnt, done-line-reads.Asked, done-line-reads.Learnt) reads.Pre reads.Post Inv-loop μ-loop) → System
 now-at c = record { count = c .before .before .before .before .before .before .before .before .before .before .before .args .s .count; network = c .before .before .before .before .before .loop .network; actors = c .before .before .before .before .before .loop .actors; tables = c .before .before .before .before .before .before .before .before .before .before .before .args .s .tables }
 
-abbrev action : (c : lts.After-seat (action-at-reads.Asked, action-at-reads.Learnt, seat-reads.Asked, seat-reads.Learnt, act-reads.Asked, act-reads.Learnt, number-of-reads.Asked, number-of-reads.Learnt, len-reads.Asked, len-reads.Learnt, answer-line-reads.Asked, answer-line-reads.Learnt, count-answer-reads.Asked, count-answer-reads.Learnt, done-line-reads.Asked, done-line-reads.Learnt) reads.Pre reads.Post Inv-loop μ-loop) → Action
+abbrev action : (c : lts.After-seat (read-action-reads.Asked, read-action-reads.Learnt, seat-reads.Asked, seat-reads.Learnt, act-reads.Asked, act-reads.Learnt, number-of-reads.Asked, number-of-reads.Learnt, len-reads.Asked, len-reads.Learnt, answer-line-reads.Asked, answer-line-reads.Learnt, count-answer-reads.Asked, count-answer-reads.Learnt, done-line-reads.Asked, done-line-reads.Learnt) reads.Pre reads.Post Inv-loop μ-loop) → Action
 action c = c .before .before .x .given .0 .0
 
 -- the action that was read there
 seen
-    : (c : lts.After-seat (action-at-reads.Asked, action-at-reads.Learnt, seat-reads.Asked, seat-reads.Learnt, act-reads.Asked, act-reads.Learnt, number-of-reads.Asked, number-of-reads.Learnt, len-reads.Asked, len-reads.Learnt, answer-line-reads.Asked, answer-line-reads.Learnt, count-answer-reads.Asked, count-answer-reads.Learnt, done-line-reads.Asked, done-line-reads.Learnt) reads.Pre reads.Post Inv-loop μ-loop)
-    → actionAt (one (actionForm version1) (drop (c .before .before .before .before .before .loop .at) (c .before .before .before .before .before .before .before .before .before .before .before .args .script .now)) (c .before .before .before .before .before .loop .at)) ≡ Act (action c) (c .before .before .x .given .0 .1 .0)
-seen c = sym (c .before .before .before .before .action-at .ensures .0) ∙ c .before .before .x .given .1
+    : (c : lts.After-seat (read-action-reads.Asked, read-action-reads.Learnt, seat-reads.Asked, seat-reads.Learnt, act-reads.Asked, act-reads.Learnt, number-of-reads.Asked, number-of-reads.Learnt, len-reads.Asked, len-reads.Learnt, answer-line-reads.Asked, answer-line-reads.Learnt, count-answer-reads.Asked, count-answer-reads.Learnt, done-line-reads.Asked, done-line-reads.Learnt) reads.Pre reads.Post Inv-loop μ-loop)
+    → actionRead (one (actionForm (c .before .before .before .before .before .before .before .before .before .before .before .args .f)) (drop (c .before .before .before .before .before .loop .at) (c .before .before .before .before .before .before .before .before .before .before .before .args .script .now)) (c .before .before .before .before .before .loop .at)) ≡ Act (action c) (c .before .before .x .given .0 .1 .0)
+seen c = sym (c .before .before .before .before .read-action .ensures .0) ∙ c .before .before .x .given .1
 
-in-arrays : (c : lts.After-seat (action-at-reads.Asked, action-at-reads.Learnt, seat-reads.Asked, seat-reads.Learnt, act-reads.Asked, act-reads.Learnt, number-of-reads.Asked, number-of-reads.Learnt, len-reads.Asked, len-reads.Learnt, answer-line-reads.Asked, answer-line-reads.Learnt, count-answer-reads.Asked, count-answer-reads.Learnt, done-line-reads.Asked, done-line-reads.Learnt) reads.Pre reads.Post Inv-loop μ-loop) → c .seat .result < 8
+in-arrays : (c : lts.After-seat (read-action-reads.Asked, read-action-reads.Learnt, seat-reads.Asked, seat-reads.Learnt, act-reads.Asked, act-reads.Learnt, number-of-reads.Asked, number-of-reads.Learnt, len-reads.Asked, len-reads.Learnt, answer-line-reads.Asked, answer-line-reads.Learnt, count-answer-reads.Asked, count-answer-reads.Learnt, done-line-reads.Asked, done-line-reads.Learnt) reads.Pre reads.Post Inv-loop μ-loop) → c .seat .result < mostActors
 in-arrays c = below (now-at c) (c .before .before .before .before .before .loop .inv .ready) (action c) (c .seat .result) (c .seat .ensures) no-actor no-table
 
 mul-actor : tie.Need-mul-actor Inv-loop μ-loop
@@ -89,7 +91,7 @@ act-requires c κs =
 
 -- what the core gave is the rules' action
 given
-    : (c : lts.After-act (action-at-reads.Asked, action-at-reads.Learnt, seat-reads.Asked, seat-reads.Learnt, act-reads.Asked, act-reads.Learnt, number-of-reads.Asked, number-of-reads.Learnt, len-reads.Asked, len-reads.Learnt, answer-line-reads.Asked, answer-line-reads.Learnt, count-answer-reads.Asked, count-answer-reads.Learnt, done-line-reads.Asked, done-line-reads.Learnt) reads.Pre reads.Post Inv-loop μ-loop)
+    : (c : lts.After-act (read-action-reads.Asked, read-action-reads.Learnt, seat-reads.Asked, seat-reads.Learnt, act-reads.Asked, act-reads.Learnt, number-of-reads.Asked, number-of-reads.Learnt, len-reads.Asked, len-reads.Learnt, answer-line-reads.Asked, answer-line-reads.Learnt, count-answer-reads.Asked, count-answer-reads.Learnt, done-line-reads.Asked, done-line-reads.Learnt) reads.Pre reads.Post Inv-loop μ-loop)
     → let d = c .before .before .before in
     writtenBack (now-at d) (d .seat .result) (c .act .result) ≡ answeredOf (now-at d) (systems (rules.act base (sysView (now-at d)) (action d)))
 given c =
@@ -157,7 +159,7 @@ done-line-requires c κs =
     let t = c .before in
     let g = t .before .before .before .loop .inv in
     let r = t .enum-told .given .0 .0 in
-    let e = sym (t .before .before .action-at .ensures .0) ∙ t .enum-told .given .1 in
+    let e = sym (t .before .before .read-action .ensures .0) ∙ t .enum-told .given .1 in
     (end-fits g r e, omega (arith, g .wide, over g r e .1, g .runs .short))
 
 same-length : tie.Need-same-length Inv-loop μ-loop
@@ -165,7 +167,7 @@ same-length c =
     let t = c .before .before .before .before in
     let g = t .before .before .before .loop .inv in
     let r = t .enum-told .given .0 .0 in
-    let e = sym (t .before .before .action-at .ensures .0) ∙ t .enum-told .given .1 in
+    let e = sym (t .before .before .read-action .ensures .0) ∙ t .enum-told .given .1 in
     let d = c .before .before .done-line .ensures in
     length-left (end-fits g r e) (record { next = d .0; bytes = d .1 .0 }) ∙ kept-length g
 
@@ -174,7 +176,7 @@ returns c =
     let t = c .before .before .before .before in
     let g = t .before .before .before .loop .inv in
     let r = t .enum-told .given .0 .0 in
-    let e = sym (t .before .before .action-at .ensures .0) ∙ t .enum-told .given .1 in
+    let e = sym (t .before .before .read-action .ensures .0) ∙ t .enum-told .given .1 in
     let d = c .before .before .done-line .ensures in
     turn-end g r e (record { next = d .0; bytes = d .1 .0 })
 
@@ -187,7 +189,7 @@ same-length-2 c =
 
 returns-2 : tie.Need-returns-2 Inv-loop μ-loop
 returns-2 c =
-    absurd (no-bad (c .before .before .before .loop .inv) (c .enum-told2 .given .0 .0) (sym (c .before .before .action-at .ensures .0) ∙ c .enum-told2 .given .1))
+    absurd (no-bad (c .before .before .before .loop .inv) (c .enum-told2 .given .0 .0) (sym (c .before .before .read-action .ensures .0) ∙ c .enum-told2 .given .1))
 
 pub run-spec : {M : Type 1} → statement M
 run-spec =
@@ -196,7 +198,7 @@ run-spec =
     Inv-loop
     μ-loop
     loop-holds
-    action-at-requires
+    read-action-requires
     enum-known-x
     seat-requires
     mul-actor
