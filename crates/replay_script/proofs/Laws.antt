@@ -1,4 +1,5 @@
--- The parts of the output: the start's line, and the lines of the run.
+-- Why the output is right: the start's line and the lines of the run stand one behind the other, and together they are what the rules' replay
+-- of the script says.
 -- Assumes nothing.
 use Prim.Native.Nat.{ℕ, _+_, _≤_, _<_}
 use native.Mathlib.Omega.{arith}
@@ -11,7 +12,9 @@ use lib.Dec.{eqb, leb, lit≤}
 use borrow.Author.Tests.{eqb-true, leb-true, le-leb, lt-leb}
 use Rattle.lists.specs.Lists.{all, choose}
 use Rattle.lists.proofs.Members.{not-true, any-in, all-in}
+use Rattle.types.specs.Capacities.{mostBytes, mostEntries}
 use Rattle.types.specs.declared.Action.{Action}
+use Rattle.types.specs.declared.Format.{Format}
 use Rattle.answers.specs.Answers.{answerNumber, answerOf}
 use Rattle.layout.specs.Read.{Reading, read, badAt}
 use Rattle.rules.specs.Outcome.{Outcome, done, refused, base}
@@ -20,8 +23,9 @@ use Rattle.rules.specs.System.{Sys, Next}
 use Rattle.rules.specs.Start.{blank, boot, start}
 use Rattle.rules.specs.Run.{answer, after, totals}
 use Rattle.rules.specs.WellFormed.{wellFormed}
-use Rattle.rules.specs.Script.{version1, readScript, actionsFrom}
+use Rattle.rules.specs.Script.{versions, formatOf, Fine, readScript, actionsFrom}
 use Rattle.rules.specs.Program.{badWord, startWord, doneWord, line, size, startLine, doneLine, runLines, replayed, replay}
+use Rattle.rules.proofs.Formats.{formats-fine}
 use Rattle.rules.proofs.Laws.{Holds}
 use Rattle.rules.proofs.Answers.{startNumbers, start-answers, start-done}
 use Rattle.rules.proofs.Formed.{start-well}
@@ -31,7 +35,7 @@ use Rattle.parts.specs.Parts.{systems}
 use Rattle.script_check.specs.declared.Layout.{Layout}
 use Rattle.script_check.specs.declared.Layout.the-variants as layout
 use Rattle.script_check.specs.Views.{layoutOf}
-use Rattle.script_parts.proofs.Whole.{Parts}
+use Rattle.script_check.proofs.Whole.{Parts}
 use Rattle.replay_lines.specs.Pieces.{put, Fits, Piece}
 use Rattle.replay_lines.proofs.Laws.{fits-first, fits-then, piece-then}
 use Rattle.system.specs.Views.{sysView, systemOf}
@@ -65,16 +69,16 @@ begun-of (refused n) h z (inl e) = let y = z e in let q : _≡_ {A = ℕ} 0 1 = 
 begun-of (refused n) h z (inr e) = let y = number-back n e in not-ran n (y .1) (y .0) refl
 
 -- ---- a script whose layout is good
-module _ (s : List ℕ) (p : Parts version1 s) where
+module _ (s : List ℕ) (p : Parts versions s) where
   abbrev pub m : Outcome Next
-  m = start base (p .script .kind) (p .script .tables) (p .script .envelopes)
+  m = start base (p .opening .kind) (p .opening .tables) (p .opening .envelopes)
 
-  pub said : replay base version1 s ≡ startLine m ++ runLines base m (p .script .actions)
+  pub said : replay base versions s ≡ startLine m ++ runLines base m (p .actions)
   unfolding replay replayed
   said = rw (p .reads)
 
   pub begun : (r : Answered) → r ≡ answeredOf (systemOf blank) (systems m) → Begun m r
-  begun r e = subst (Begun m) (sym e) (begun-of m (start-well base (p .script .kind) (p .script .tables) (p .script .envelopes)) (start-done base (p .script .kind) (p .script .tables) (p .script .envelopes)) (start-answers base (p .script .kind) (p .script .tables) (p .script .envelopes)))
+  begun r e = subst (Begun m) (sym e) (begun-of m (start-well base (p .opening .kind) (p .opening .tables) (p .opening .envelopes)) (start-done base (p .opening .kind) (p .opening .tables) (p .opening .envelopes)) (start-answers base (p .opening .kind) (p .opening .tables) (p .opening .envelopes)))
 
 pub number-is : {m : Outcome Next} {r : Answered} → Begun m r → answerNumber (r .answer) ≡ answer m
 unfolding answer
@@ -86,7 +90,7 @@ unfolding size after blank boot
 size-is (ran x d e f g) = ap (λ (t : Sys). len (t .net .entries)) g
 size-is (not-ran n d e f) = rw f
 
-pub used-fits : {m : Outcome Next} {r : Answered} → Begun m r → r .system .network .used ≤ 128
+pub used-fits : {m : Outcome Next} {r : Answered} → Begun m r → r .system .network .used ≤ mostEntries
 unfolding blank boot
 used-fits {r = r} (ran x d e f g) = net-fits (r .system) f
 used-fits (not-ran n d e f) = rw f (lit≤ tt)
@@ -107,10 +111,10 @@ then-ends (ran x d e f g) h l = absurd (true≢false (sym d ∙ h))
 then-ends (not-ran n d e f) h l = refl
 
 -- ---- the start's line, then the others
-module _ (s : List ℕ) (p : Parts version1 s) (r : Answered) (b : Begun (m s p) r) (write : Bool) (out : List ℕ) (room : Fits write 0 (replay base version1 s) out)
+module _ (s : List ℕ) (p : Parts versions s) (r : Answered) (b : Begun (m s p) r) (write : Bool) (out : List ℕ) (room : Fits write 0 (replay base versions s) out)
     (n k : ℕ) (en : n ≡ answerNumber (r .answer)) (ek : k ≡ len (netView (r .system .network) .entries)) where
   abbrev others : List ℕ
-  others = runLines base (m s p) (p .script .actions)
+  others = runLines base (m s p) (p .actions)
 
   abbrev first : List ℕ
   first = line startWord (n ∷ k ∷ [])
@@ -119,7 +123,7 @@ module _ (s : List ℕ) (p : Parts version1 s) (r : Answered) (b : Begun (m s p)
   unfolding startLine
   first-is = λ i. line startWord ((en ∙ number-is b) i ∷ (ek ∙ size-is b) i ∷ [])
 
-  all-is : replay base version1 s ≡ first ++ others
+  all-is : replay base versions s ≡ first ++ others
   all-is = said s p ∙ ap (λ (l : List ℕ). l ++ others) (sym first-is)
 
   all-fits : Fits write 0 (first ++ others) out
@@ -132,57 +136,50 @@ module _ (s : List ℕ) (p : Parts version1 s) (r : Answered) (b : Begun (m s p)
     others-fit : Fits write at others mid
     others-fit = fits-then first others all-fits q
 
-    joined : {l left : List ℕ} {e : ℕ} → others ≡ l → Piece write at l mid e left → Piece write 0 (replay base version1 s) out e left
+    joined : {l left : List ℕ} {e : ℕ} → others ≡ l → Piece write at l mid e left → Piece write 0 (replay base versions s) out e left
     joined {l} {left} {e} h t = subst (λ (x : List ℕ). Piece write 0 x out e left) (sym all-is) (piece-then first others all-fits q (subst (λ (x : List ℕ). Piece write at x mid e left) (sym h) t))
 
     -- a refused start
     pub ends-fit : isDone (r .answer) ≡ false → Fits write at (line doneWord (0 ∷ 0 ∷ 0 ∷ [])) mid
-    ends-fit h = subst (λ (l : List ℕ). Fits write at l mid) (then-ends b h (p .script .actions)) others-fit
+    ends-fit h = subst (λ (l : List ℕ). Fits write at l mid) (then-ends b h (p .actions)) others-fit
 
-    pub ends-all : isDone (r .answer) ≡ false → {left : List ℕ} {e : ℕ} → Piece write at (line doneWord (0 ∷ 0 ∷ 0 ∷ [])) mid e left → Piece write 0 (replay base version1 s) out e left
-    ends-all h t = joined (then-ends b h (p .script .actions)) t
+    pub ends-all : isDone (r .answer) ≡ false → {left : List ℕ} {e : ℕ} → Piece write at (line doneWord (0 ∷ 0 ∷ 0 ∷ [])) mid e left → Piece write 0 (replay base versions s) out e left
+    ends-all h t = joined (then-ends b h (p .actions)) t
 
     -- a start that is done
-    pub runs-so : isDone (r .answer) ≡ true → (from : ℕ) → from ≡ p .actions → length s ≤ 65536 → at ≤ 80 → Runs s from (r .system) mid at write
-    runs-so h from f short small = record {
-      actions = p .script .actions;
+    pub runs-so : isDone (r .answer) ≡ true → (from : ℕ) (f : Format) → from ≡ p .next → f ≡ formatOf versions (p .opening .version) → at ≤ 80 → Runs s from f (r .system) mid at write
+    runs-so h from f e v small = record {
+      actions = p .actions;
       left = p .left;
       end = p .place;
-      reads = ap (λ (k : ℕ). actionsFrom version1 (drop k s) k) f ∙ p .readsActions;
-      short = short;
+      reads = (λ i. actionsFrom (v i) (drop (e i) s) (e i)) ∙ p .readsActions;
+      fine = subst Fine (sym v) (formats-fine (p .opening .version));
+      short = p .short;
       ready = is-ready b h;
-      fits = subst (λ (l : List ℕ). Fits write at l mid) (then-runs b h (p .script .actions)) others-fit;
+      fits = subst (λ (l : List ℕ). Fits write at l mid) (then-runs b h (p .actions)) others-fit;
       small = small;
     }
 
-    pub runs-all : isDone (r .answer) ≡ true → {left : List ℕ} {e : ℕ} → Piece write at (runText (sysView (r .system)) (p .script .actions)) mid e left → Piece write 0 (replay base version1 s) out e left
-    runs-all h t = joined (then-runs b h (p .script .actions)) t
+    pub runs-all : isDone (r .answer) ≡ true → {left : List ℕ} {e : ℕ} → Piece write at (runText (sysView (r .system)) (p .actions)) mid e left → Piece write 0 (replay base versions s) out e left
+    runs-all h t = joined (then-runs b h (p .actions)) t
 
--- A good layout is no longer than a script may be, and its output no longer than the bound.
-pub good-short : (s : List ℕ) → layoutOf (readScript version1 s) ≡ layout.Good → length s ≤ 65536
-unfolding readScript choose
-good-short s e = go (leb (length s) 65536) refl
-  where
-    go : (b : Bool) → leb (length s) 65536 ≡ b → length s ≤ 65536
-    go true h = leb-true (length s) 65536 h
-    go false h = let f : layout.Bad 0 ≡ layout.Good = rw h at e in let z : _≡_ {A = ℕ} 0 1 = cc in absurd (omega arith)
-
-pub good-longest : (s : List ℕ) (p : Parts version1 s) → length s ≤ 65536 → length (replay base version1 s) ≤ longest (length s)
-good-longest s p h =
+-- The output of a good layout is no longer than the bound.
+pub good-longest : (s : List ℕ) (p : Parts versions s) → length (replay base versions s) ≤ longest (length s)
+good-longest s p =
     subst (λ (l : List ℕ). length l ≤ longest (length s)) (sym (said s p))
-    (whole-short (m s p) s (p .actions) (p .script .actions) (start-well base (p .script .kind) (p .script .tables) (p .script .envelopes)) (start-answers base (p .script .kind) (p .script .tables) (p .script .envelopes)) h (p .readsActions))
+    (whole-short (formatOf versions (p .opening .version)) (m s p) s (p .next) (p .actions) (start-well base (p .opening .kind) (p .opening .tables) (p .opening .envelopes)) (start-answers base (p .opening .kind) (p .opening .tables) (p .opening .envelopes)) (p .short) (p .readsActions))
 
 -- ---- a script whose layout is bad
-said-bad : (s : List ℕ) (p : ℕ) → layoutOf (readScript version1 s) ≡ layout.Bad p → replay base version1 s ≡ line badWord (p ∷ [])
+said-bad : (s : List ℕ) (p : ℕ) → layoutOf (readScript versions s) ≡ layout.Bad p → replay base versions s ≡ line badWord (p ∷ [])
 unfolding replay replayed
-said-bad s p e = go (readScript version1 s) e
+said-bad s p e = go (readScript versions s) e
   where
     go : (x : Reading _) → layoutOf x ≡ layout.Bad p → replayed base x ≡ line badWord (p ∷ [])
     go (read a ys q) h = let z : _≡_ {A = ℕ} 0 1 = cc in absurd (omega arith)
     go (badAt q) h = let z : q ≡ p = cc in rw z
 
 -- ---- the buffer
-pub told-bad : (s : List ℕ) (p : ℕ) {out left : List ℕ} {r : ℕ} → layoutOf (readScript version1 s) ≡ layout.Bad p → Told (line badWord (p ∷ [])) out r left → Told (replay base version1 s) out r left
+pub told-bad : (s : List ℕ) (p : ℕ) {out left : List ℕ} {r : ℕ} → layoutOf (readScript versions s) ≡ layout.Bad p → Told (line badWord (p ∷ [])) out r left → Told (replay base versions s) out r left
 told-bad s p {out} {left} {r} e t = subst (λ (l : List ℕ). Told l out r left) (sym (said-bad s p e)) t
 
 pub told-all : {l out left : List ℕ} {r : ℕ} → Piece true 0 l out r left → length l ≤ length out → Told l out r left

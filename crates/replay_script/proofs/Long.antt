@@ -12,7 +12,9 @@ use borrow.Author.Tests.{eqb-true, leb-true}
 use Rattle.lists.specs.Lists.{all}
 use Rattle.lists.proofs.Members.{any-in, all-in, and-both}
 use Rattle.types.specs.declared.Action.{Action}
+use Rattle.types.specs.Capacities.{mostBytes, mostCopies, mostEntries}
 use Rattle.types.specs.declared.Entry.{Entry}
+use Rattle.types.specs.declared.Format.{Format}
 use Rattle.layout.specs.Read.{read}
 use Rattle.rules.specs.Outcome.{Outcome, done, refused, base}
 use Rattle.rules.specs.Network.{len}
@@ -20,34 +22,33 @@ use Rattle.rules.specs.System.{Sys, Next}
 use Rattle.rules.specs.Start.{blank, boot}
 use Rattle.rules.specs.Run.{step, answer, after, answers, Totals, counted, totals}
 use Rattle.rules.specs.WellFormed.{wellFormed}
-use Rattle.rules.specs.Script.{version1, actionsFrom}
+use Rattle.rules.specs.Script.{actionsFrom}
 use Rattle.rules.specs.Program.{decimal, spaced, line, answerLine, size, actionLines, doneLine, startLine, runLines}
 use Rattle.rules.proofs.Answers.{act-answers, formed-step, stepNumbers, startNumbers, step-keeps}
 use Rattle.rules.proofs.Laws.{Holds}
 use Rattle.replay_decimals.proofs.Laws.{length-small, length-decimal}
 use Rattle.net_network.specs.Views.{netView, networkOf}
 use Rattle.net_network.proofs.Ready.{viewed}
-use Rattle.script_parts.proofs.Whole.{Coming, last, next, coming}
+use Rattle.script_check.proofs.Actions.{Coming, last, next, coming, span}
 use Rattle.replay_lines.proofs.Laws.{length-line}
-use Rattle.replay_run.proofs.Laws.{span}
 use Rattle.replay_script.specs.Views.{longest}
 use Rattle.system.specs.Views.{sysView, systemOf}
 use Rattle.system.proofs.Laws.{image-laid, system-back, net-ready}
 
 -- ---- how many actions
-pub fewer : (s : List ℕ) (at : ℕ) (l : List Action) {ys : List ℕ} {q : ℕ} → Coming version1 s at ys q l → at + length l ≤ length s
-fewer s at [] (last r h) = omega (arith, span s at r h)
-fewer s at (a ∷ l) (next r h g) =
-    let i = fewer s r l (coming version1 s r g) in
-    omega (arith, span s at r h)
+pub fewer : (f : Format) (s : List ℕ) (at : ℕ) (l : List Action) {ys : List ℕ} {q : ℕ} → Coming f s at ys q l → at + length l ≤ length s
+fewer f s at [] (last r h) = omega (arith, span f s at r h)
+fewer f s at (a ∷ l) (next r h g) =
+    let i = fewer f s r l (coming f s r g) in
+    omega (arith, span f s at r h)
 
 -- ---- the length of a network is small
-len-most : (l : List Entry) → all (λ x. leb (x .count) 65535) l ≡ true → len l ≤ 65535 * length l
+len-most : (l : List Entry) → all (λ x. leb (x .count) mostCopies) l ≡ true → len l ≤ mostCopies * length l
 unfolding len all
 len-most [] h = omega arith
 len-most (x ∷ l) h =
-    let w = and-both (leb (x .count) 65535) _ h in
-    omega (arith, leb-true (x .count) 65535 (w .0), len-most l (w .1))
+    let w = and-both (leb (x .count) mostCopies) _ h in
+    omega (arith, leb-true (x .count) mostCopies (w .0), len-most l (w .1))
 
 size-small : (m : Sys) → wellFormed base m ≡ true → size m < 18446744073709551616
 unfolding size
@@ -56,7 +57,7 @@ size-small m w =
     let n = net-ready (systemOf m) (image-laid m w) f in
     let v : netView (networkOf (m .net)) .entries ≡ m .net .entries = ap (λ (t : Sys). t .net .entries) (system-back m w) in
     let k = len-most (netView (networkOf (m .net)) .entries) (n .counts) in
-    let u : length (m .net .entries) ≤ 128 = n .laid .fit in
+    let u : length (m .net .entries) ≤ mostEntries = n .laid .fit in
     omega (arith, k, ap len v, ap length v)
 
 -- ---- a line of an action
@@ -103,7 +104,7 @@ unfolding answers
 answers-length m [] = refl
 answers-length m (a ∷ l) = ap suc (answers-length (after m (step base m a)) l)
 
-done-short : (m : Sys) (l : List Action) → length l ≤ 65536 → length (doneLine (totals (answers base m l))) ≤ 80
+done-short : (m : Sys) (l : List Action) → length l ≤ mostBytes → length (doneLine (totals (answers base m l))) ≤ 80
 unfolding doneLine
 done-short m l h =
     let s = sum-is (answers base m l) in
@@ -124,15 +125,15 @@ start-short (refused n) h (inr e) =
     let y = all-in (λ k. leb k 10) (6 ∷ 7 ∷ 8 ∷ 10 ∷ []) refl (x .0) (x .1) in
     length-line _ _ (omega (arith, eqb-true n (x .0) (x .2), leb-true (x .0) 10 y), (omega arith, tt)) (omega arith)
 
-run-short : (m : Outcome Next) (l : List Action) → Holds (λ (x : Next). wellFormed base (x .sys) ≡ true) m → length l ≤ 65536 → length (runLines base m l) ≤ 23 * length l + 80
+run-short : (m : Outcome Next) (l : List Action) → Holds (λ (x : Next). wellFormed base (x .sys) ≡ true) m → length l ≤ mostBytes → length (runLines base m l) ≤ 23 * length l + 80
 unfolding runLines
 run-short (done x) l h k =
     let e = length-append (actionLines base (x .sys) l) (doneLine (totals (answers base (x .sys) l))) in
     omega (arith, e, lines-short (x .sys) l (h .value x refl), done-short (x .sys) l k)
 run-short (refused n) l h k = omega (arith, none-short)
 
-pub whole-short : (m : Outcome Next) (s : List ℕ) (at : ℕ) (l : List Action) {ys : List ℕ} {q : ℕ} → Holds (λ (x : Next). wellFormed base (x .sys) ≡ true) m → (answer m ≡ 0) ⊎ (startNumbers (answer m) ≡ true)
-    → length s ≤ 65536 → actionsFrom version1 (drop at s) at ≡ read l ys q → length (startLine m ++ runLines base m l) ≤ longest (length s)
-whole-short m s at l h w k e =
-    let n = fewer s at l (coming version1 s at e) in
+pub whole-short : (f : Format) (m : Outcome Next) (s : List ℕ) (at : ℕ) (l : List Action) {ys : List ℕ} {q : ℕ} → Holds (λ (x : Next). wellFormed base (x .sys) ≡ true) m → (answer m ≡ 0) ⊎ (startNumbers (answer m) ≡ true)
+    → length s ≤ mostBytes → actionsFrom f (drop at s) at ≡ read l ys q → length (startLine m ++ runLines base m l) ≤ longest (length s)
+whole-short f m s at l h w k e =
+    let n = fewer f s at l (coming f s at e) in
     omega (arith, length-append (startLine m) (runLines base m l), start-short m h w, run-short m l h (omega (arith, n, k)), n)

@@ -8,14 +8,16 @@ use replay_run::run;
 use replay_start::open;
 use script_check::Layout;
 use script_check::check_script;
+use script_records::format_of;
 ghost use mathlib.Core.Path.{_≡_};
 ghost use mathlib.Core.List.{[], _∷_, _++_};
 ghost use Prim.Native.Nat.{_≤_};
 ghost use lib.ListN.{length, drop};
 ghost use lib.Dec.{leb};
 ghost use Rattle.lists.specs.Lists.{choose};
+ghost use Rattle.types.specs.Capacities.{mostBytes};
 ghost use Rattle.rules.specs.Outcome.{base};
-ghost use Rattle.rules.specs.Script.{version1, readScript};
+ghost use Rattle.rules.specs.Script.{versions, readScript};
 ghost use Rattle.rules.specs.Program.{line, badWord, replay};
 ghost use Rattle.script_check.specs.declared.Layout.the-variants.{Good};
 ghost use Rattle.script_check.specs.Views.{layoutOf};
@@ -24,11 +26,12 @@ ghost use Rattle.replay_script.specs.Views.{longest, Told};
 
 // A script whose layout is good: the start, and if it is done the run.
 fn tell_run(script: &[u8], out: &mut [u8], write: bool) -> usize
-    requires { ⌜ (layoutOf (readScript version1 (now script)) ≡ Good) × Fits write 0 (replay base version1 (now script)) (now out) ⌝ }
-    ensures { λ r. ⌜ Piece write 0 (replay base version1 (now (script .entry))) (now (out .entry)) r (now (out .exit)) ⌝ }
+    requires { ⌜ (layoutOf (readScript versions (now script)) ≡ Good) × Fits write 0 (replay base versions (now script)) (now out) ⌝ }
+    ensures { λ r. ⌜ Piece write 0 (replay base versions (now (script .entry))) (now (out .entry)) r (now (out .exit)) ⌝ }
 {
     let o = open(script);
     let from = o.next;
+    let version = o.version;
     let started = o.answered;
     let answer = started.answer;
     let s = started.system;
@@ -39,12 +42,13 @@ fn tell_run(script: &[u8], out: &mut [u8], write: bool) -> usize
     if !is_done(answer) {
         return done_line(out, at, write, 0, 0, 0);
     }
-    run(script, from, s, out, at, write)
+    let f = format_of(version);
+    run(script, from, f, s, out, at, write)
 }
 
 // How long the output of a script of so many bytes can be at most, if its layout is good.
 fn room_for(bytes: usize) -> usize
-    requires { ⌜ bytes ≤ 65536 ⌝ }
+    requires { ⌜ bytes ≤ mostBytes ⌝ }
     ensures { λ r. ⌜ r ≡ longest bytes ⌝ }
 {
     160 + 23 * bytes
@@ -52,8 +56,8 @@ fn room_for(bytes: usize) -> usize
 
 // Where the buffer is long enough for any script of this length, the output is not measured first.
 fn put_run(script: &[u8], out: &mut [u8]) -> usize
-    requires { ⌜ layoutOf (readScript version1 (now script)) ≡ Good ⌝ }
-    ensures { λ r. ⌜ Told (replay base version1 (now (script .entry))) (now (out .entry)) r (now (out .exit)) ⌝ }
+    requires { ⌜ layoutOf (readScript versions (now script)) ≡ Good ⌝ }
+    ensures { λ r. ⌜ Told (replay base versions (now (script .entry))) (now (out .entry)) r (now (out .exit)) ⌝ }
 {
     if room_for(script.len()) <= out.len() {
         return tell_run(script, out, true);
@@ -78,8 +82,8 @@ fn put_bad(out: &mut [u8], place: usize) -> usize
 
 // Answers how long the output is. It stands at the start of the buffer if it fits there; else nothing was written.
 pub fn replay(script: &[u8], out: &mut [u8]) -> usize
-    ensures size { λ r. ⌜ r ≡ length (replay base version1 (now (script .entry))) ⌝ }
-    ensures bytes { λ r. ⌜ now (out .exit) ≡ choose (leb r (length (now (out .entry)))) (replay base version1 (now (script .entry)) ++ drop r (now (out .entry))) (now (out .entry)) ⌝ }
+    ensures size { λ r. ⌜ r ≡ length (replay base versions (now (script .entry))) ⌝ }
+    ensures bytes { λ r. ⌜ now (out .exit) ≡ choose (leb r (length (now (out .entry)))) (replay base versions (now (script .entry)) ++ drop r (now (out .entry))) (now (out .entry)) ⌝ }
 {
     let layout = check_script(script);
     match layout {

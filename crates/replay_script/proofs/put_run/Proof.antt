@@ -1,8 +1,9 @@
+-- Where the buffer has room for any output of a script of this length, it is written at once; else it is measured first.
 use native.Mathlib.Omega.{arith}
 use mathlib.Core.Bool.{false≢true}
-use Rattle.rules.specs.Script.{version1}
-use Rattle.script_parts.proofs.Whole.{parts-of}
-use Rattle.replay_script.proofs.Laws.{good-short, good-longest, told-all, told-after, told-none}
+use Rattle.rules.specs.Script.{versions}
+use Rattle.script_check.proofs.Whole.{parts-of}
+use Rattle.replay_script.proofs.Laws.{good-longest, told-all, told-after, told-none}
 use borrow.Author.Needs.{needs}
 use Rattle.replay_script.proofs.put_run.Statement.{statement}
 use Rattle.replay_script.proofs.put_run.Tie as tie
@@ -12,12 +13,12 @@ use Rattle.replay_script.proofs.room_for.Reads as room-for-reads
 use Rattle.replay_script.proofs.tell_run.Reads as tell-run-reads
 
 room-for-requires : tie.Need-room-for-requires
-room-for-requires c κs = good-short _ (c .before .before .pre)
+room-for-requires c κs = parts-of versions _ (c .before .before .pre) .short
 
 tell-run-requires : tie.Need-tell-run-requires
 tell-run-requires c κs =
     let s = c .before .before .before .before .before in
-    let h = good-longest (s .args .script .now) (parts-of version1 _ (s .pre)) (good-short _ (s .pre)) in
+    let h = good-longest (s .args .script .now) (parts-of versions _ (s .pre)) in
     (s .pre, λ w. omega (arith, h, c .before .if1 .taken, c .before .before .room-for .ensures))
 
 same-length : tie.Need-same-length
@@ -26,7 +27,7 @@ same-length c = search needs
 returns : tie.Need-returns
 returns c =
     let s = c .before .before .before .before .before .before .before .before in
-    let h = good-longest (s .args .script .now) (parts-of version1 _ (s .pre)) (good-short _ (s .pre)) in
+    let h = good-longest (s .args .script .now) (parts-of versions _ (s .pre)) in
     told-all (c .before .before .tell-run .ensures) (omega (arith, h, c .before .before .before .before .if1 .taken, c .before .before .before .before .before .room-for .ensures))
 
 tell-run-requires-2 : tie.Need-tell-run-requires-2

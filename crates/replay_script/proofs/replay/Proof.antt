@@ -1,3 +1,4 @@
+-- A bad layout is told by its place; of a good one the run is told.
 use mathlib.Core.Path.{sym, _∙_}
 use Rattle.replay_script.proofs.Laws.{told-bad}
 use borrow.Author.Needs.{needs}
