@@ -5,14 +5,14 @@ ghost use lib.ListN.{length, drop};
 ghost use lib.Dec.{leb};
 ghost use Rattle.lists.specs.Lists.{choose};
 ghost use Rattle.rules.specs.Outcome.{base};
-ghost use Rattle.rules.specs.Script.{version1};
+ghost use Rattle.rules.specs.Script.{versions};
 ghost use Rattle.rules.specs.Program.{replay};
 
 // `replay_script::replay`: the length of the output, which stands at the start of the buffer if it fits there; else the buffer is as it was.
 #[no_mangle]
 pub extern "C" fn scumbradel_replay(script: &[u8], out: &mut [u8]) -> usize
-    ensures size { λ r. ⌜ r ≡ length (replay base version1 (now (script .entry))) ⌝ }
-    ensures bytes { λ r. ⌜ now (out .exit) ≡ choose (leb r (length (now (out .entry)))) (replay base version1 (now (script .entry)) ++ drop r (now (out .entry))) (now (out .entry)) ⌝ }
+    ensures size { λ r. ⌜ r ≡ length (replay base versions (now (script .entry))) ⌝ }
+    ensures bytes { λ r. ⌜ now (out .exit) ≡ choose (leb r (length (now (out .entry)))) (replay base versions (now (script .entry)) ++ drop r (now (out .entry))) (now (out .entry)) ⌝ }
 {
     replay_script::replay(script, out)
 }

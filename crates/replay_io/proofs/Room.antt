@@ -15,18 +15,20 @@ use Rattle.lists.specs.Lists.{choose}
 use Rattle.layout.specs.Form.{Form, Got, got, bad, recordOf}
 use Rattle.layout.specs.Read.{Reading, read, badAt, Reader, placed, one, onward, joining, repeat}
 use Rattle.layout.proofs.Laws.{record-fits}
+use Rattle.types.specs.Capacities.{mostBytes}
 use Rattle.types.specs.declared.Action.{Action}
+use Rattle.types.specs.declared.Format.{Format}
 use Rattle.rules.specs.Outcome.{base}
-use Rattle.rules.specs.Script.{Version, version1, Item, end, item, Script, headerForm, ruleCountForm, ruleForm, envelopeCountForm, envelopeForm}
+use Rattle.rules.specs.Script.{versions, formatOf, Item, end, item, Script, headerForm, ruleCountForm, ruleForm, envelopeCountForm, envelopeForm, listsFrom, openingFrom}
 use Rattle.rules.specs.Script.{actionForm, tableFrom, envelopesFrom, closed, afterItem, actionsWithin, actionsFrom, scriptFrom, readScript}
 use Rattle.rules.specs.Program.{badWord, line, replay}
 use Rattle.script_check.specs.declared.Layout.{Layout}
 use Rattle.script_check.specs.declared.Layout.the-variants as layout
 use Rattle.script_check.specs.Views.{layoutOf}
-use Rattle.script_parts.proofs.Whole.{parts-of}
+use Rattle.script_check.proofs.Whole.{Parts, parts-of}
 use Rattle.replay_lines.proofs.Laws.{length-line}
 use Rattle.replay_script.specs.Views.{Told}
-use Rattle.replay_script.proofs.Laws.{good-short, good-longest, told-bad}
+use Rattle.replay_script.proofs.Laws.{good-longest, told-bad}
 
 -- ---- the place of a bad record lies in the script
 -- What is left of a reading ends where the script ends, at this place; a bad one's place is not beyond it.
@@ -68,10 +70,6 @@ stays-repeat (suc n) f s =
 stays-counted : {A : Type 0} (f : Form ℕ) (g : Form A) → Stays (λ xs p. onward (one f xs p) (λ c. repeat c (one g)))
 stays-counted f g = stays-onward (one f) (λ c. repeat c (one g)) (stays-one f) (λ c. stays-repeat c (one g) (stays-one g))
 
-stays-table : Stays tableFrom
-unfolding tableFrom
-stays-table = stays-counted ruleCountForm ruleForm
-
 stays-closed : Stays closed
 unfolding closed
 stays-closed [] p = refl
@@ -82,50 +80,61 @@ unfolding afterItem
 stays-item end more s = stays-closed
 stays-item (item a) more s = stays-onward more (joining a) s (stays-joining a)
 
-module _ (v : Version) where
-  stays-envelopes : Stays (envelopesFrom v)
-  unfolding envelopesFrom
-  stays-envelopes = stays-counted (envelopeCountForm v) (envelopeForm v)
+module _ (f : Format) where
+  stays-table : Stays (tableFrom f)
+  unfolding tableFrom
+  stays-table = stays-counted ruleCountForm (ruleForm f)
 
-  stays-within : (k : ℕ) → Stays (actionsWithin k v)
+  stays-envelopes : Stays (envelopesFrom f)
+  unfolding envelopesFrom
+  stays-envelopes = stays-counted (envelopeCountForm f) (envelopeForm f)
+
+  stays-within : (k : ℕ) → Stays (actionsWithin k f)
   unfolding actionsWithin
   stays-within zero = λ xs p. omega arith
   stays-within (suc k) =
       stays-onward
-      (one (actionForm v))
-      (λ i. afterItem i (actionsWithin k v))
-      (stays-one (actionForm v))
-      (λ i. stays-item i (actionsWithin k v) (stays-within k))
+      (one (actionForm f))
+      (λ i. afterItem i (actionsWithin k f))
+      (stays-one (actionForm f))
+      (λ i. stays-item i (actionsWithin k f) (stays-within k))
 
-  stays-actions : Stays (actionsFrom v)
+  stays-actions : Stays (actionsFrom f)
   unfolding actionsFrom
   stays-actions xs p = stays-within (suc (length xs)) xs p
 
-  stays-script : Stays (scriptFrom v)
+module _ (known : List Format) where
+  stays-opening : Stays (openingFrom known)
+  unfolding openingFrom listsFrom
+  stays-opening =
+      stays-onward (one (headerForm known)) _ (stays-one (headerForm known)) (λ h.
+      let f = formatOf known (h .version) in
+      stays-onward (repeat (h .actors) (tableFrom f)) _ (stays-repeat (h .actors) (tableFrom f) (stays-table f)) (λ ts.
+      stays-onward (envelopesFrom f) _ (stays-envelopes f) (λ es xs p. refl)))
+
+  stays-script : Stays (scriptFrom known)
   unfolding scriptFrom
   stays-script =
-      stays-onward (one (headerForm v)) _ (stays-one (headerForm v)) (λ h.
-      stays-onward (repeat (h .actors) tableFrom) _ (stays-repeat (h .actors) tableFrom stays-table) (λ ts.
-      stays-onward (envelopesFrom v) _ stays-envelopes (λ es.
-      stays-onward (actionsFrom v) _ stays-actions (λ l xs p. refl))))
+      stays-onward (openingFrom known) _ stays-opening (λ o.
+      stays-onward (actionsFrom (formatOf known (o .version))) _ (stays-actions (formatOf known (o .version))) (λ l xs p. refl))
 
-  inside : (s : List ℕ) → Inside (length s) (readScript v s)
+  inside : (s : List ℕ) → Inside (length s) (readScript known s)
   unfolding readScript choose
-  inside s = go (leb (length s) 65536)
+  inside s = go (leb (length s) mostBytes)
     where
-      go : (b : Bool) → Inside (length s) (choose b (scriptFrom v s 0) (badAt 0))
-      go true = subst (λ (e : ℕ). Inside e (scriptFrom v s 0)) (omega arith) (stays-script s 0)
+      go : (b : Bool) → Inside (length s) (choose b (scriptFrom known s 0) (badAt 0))
+      go true = subst (λ (e : ℕ). Inside e (scriptFrom known s 0)) (omega arith) (stays-script s 0)
       go false = omega arith
 
 -- ---- the output
-place-in : (s : List ℕ) (p : ℕ) → layoutOf (readScript version1 s) ≡ layout.Bad p → p ≤ length s
-place-in s p h = go (readScript version1 s) (inside version1 s) h
+place-in : (s : List ℕ) (p : ℕ) → layoutOf (readScript versions s) ≡ layout.Bad p → p ≤ length s
+place-in s p h = go (readScript versions s) (inside versions s) h
   where
     go : (m : Reading Script) → Inside (length s) m → layoutOf m ≡ layout.Bad p → p ≤ length s
     go (read a ys q) i e = let z : _≡_ {A = ℕ} 0 1 = cc in absurd (omega arith)
     go (badAt q) i e = let z : q ≡ p = cc in omega arith
 
-bad-size : (s : List ℕ) (p : ℕ) → layoutOf (readScript version1 s) ≡ layout.Bad p → length (line badWord (p ∷ [])) ≡ length (replay base version1 s)
+bad-size : (s : List ℕ) (p : ℕ) → layoutOf (readScript versions s) ≡ layout.Bad p → length (line badWord (p ∷ [])) ≡ length (replay base versions s)
 bad-size s p h =
     (told-bad s p {out = []} {left = choose (leb n 0) (line badWord (p ∷ []) ++ drop n []) []} {r = n} h (record { size = refl; bytes = refl })) .size
   where
@@ -133,17 +142,17 @@ bad-size s p h =
     n = length (line badWord (p ∷ []))
 
 bad-fits
-    : (s : List ℕ) (p : ℕ) → length s < 18446744073709551616 → layoutOf (readScript version1 s) ≡ layout.Bad p
-    → length (replay base version1 s) ≤ 1507488
+    : (s : List ℕ) (p : ℕ) → length s < 18446744073709551616 → layoutOf (readScript versions s) ≡ layout.Bad p
+    → length (replay base versions s) ≤ 1507488
 bad-fits s p k h =
     let l = length-line badWord (p ∷ []) (omega (arith, place-in s p h), tt) (omega arith) in
     omega (arith, bad-size s p h, l)
 
-pub output-fits : (s : List ℕ) → length s < 18446744073709551616 → length (replay base version1 s) ≤ 1507488
-output-fits s k = go (layoutOf (readScript version1 s)) refl
+pub output-fits : (s : List ℕ) → length s < 18446744073709551616 → length (replay base versions s) ≤ 1507488
+output-fits s k = go (layoutOf (readScript versions s)) refl
   where
-    go : (l : Layout) → layoutOf (readScript version1 s) ≡ l → length (replay base version1 s) ≤ 1507488
-    go layout.Good h = let n = good-short s h in omega (arith, n, good-longest s (parts-of version1 s h) n)
+    go : (l : Layout) → layoutOf (readScript versions s) ≡ l → length (replay base versions s) ≤ 1507488
+    go layout.Good h = let p = parts-of versions s h in omega (arith, p .short, good-longest s p)
     go (layout.Bad p) h = bad-fits s p k h
 
 -- ---- the output, at the start of a buffer in which it fits

@@ -11,7 +11,7 @@ ghost use mathlib.Core.Path.{_≡_};
 ghost use lib.ListN.{length, take};
 ghost use Rattle.io.specs.Counts.{Counts};
 ghost use Rattle.rules.specs.Outcome.{base};
-ghost use Rattle.rules.specs.Script.{version1};
+ghost use Rattle.rules.specs.Script.{versions};
 ghost use Rattle.rules.specs.Program.{replay};
 ghost use Rattle.replay_io.specs.Views.{Sized};
 
@@ -33,14 +33,14 @@ fn output_room() -> [u8; 1507488]
 fn put_output(script: &[u8], room: &mut [u8]) -> usize
     requires { ⌜ Sized 1507488 (now room) ⌝ }
     ensures counts { λ r. ⌜ Counts r (now (room .exit)) ⌝ }
-    ensures bytes { λ r. ⌜ take r (now (room .exit)) ≡ replay base version1 (now (script .entry)) ⌝ }
+    ensures bytes { λ r. ⌜ take r (now (room .exit)) ≡ replay base versions (now (script .entry)) ⌝ }
 {
     replay(script, room)
 }
 
 // Writes the output of the script. It asks for the script so that nothing else can be handed to it.
 fn write_output(script: &[u8], out: &[u8])
-    requires { ⌜ now out ≡ replay base version1 (now script) ⌝ }
+    requires { ⌜ now out ≡ replay base versions (now script) ⌝ }
 {
     if !io::write_all(STDOUT_FILENO, out) {
         os::fail(b"standard output");

@@ -13,7 +13,7 @@ use borrow.Author.Tests.{eqb-true, eqb-false, leb-true, le-leb, lt-leb, eq-eqb, 
 use Rattle.lists.specs.Lists.{choose}
 use Rattle.layout.specs.Bits.{fieldAt}
 use Rattle.rules.specs.Outcome.{base}
-use Rattle.rules.specs.Script.{version1}
+use Rattle.rules.specs.Script.{versions}
 use Rattle.rules.specs.Program.{replay}
 use Rattle.test_list_check.specs.declared.Tally.{Tally}
 use Rattle.test_list_check.specs.List.{partSize, second, pairSize, equal, agrees, right, counted, walk}
@@ -133,21 +133,21 @@ pub taken-size : (w out left : List ℕ) {r : ℕ} → 65536 ≡ length out → 
 taken-size w out left {r} n e h k = e ∙ sym (ap length (took w out left r e (omega arith) k))
 
 module _ (script stored : List ℕ) where
-  pub too-long : {r : ℕ} → r ≡ length (replay base version1 script) → 65536 < r → false ≡ agrees script stored
+  pub too-long : {r : ℕ} → r ≡ length (replay base versions script) → 65536 < r → false ≡ agrees script stored
   unfolding agrees
   too-long {r} e h =
-      let k : 65536 < length (replay base version1 script) = omega arith in
-      sym (ap (λ (b : Bool). b && equal (replay base version1 script) stored) (lt-leb (length (replay base version1 script)) 65536 k))
+      let k : 65536 < length (replay base versions script) = omega arith in
+      sym (ap (λ (b : Bool). b && equal (replay base versions script) stored) (lt-leb (length (replay base versions script)) 65536 k))
 
-  pub compared : {r : ℕ} {b : Bool} (out left : List ℕ) → 65536 ≡ length out → r ≡ length (replay base version1 script) → r ≤ 65536
-      → left ≡ choose (leb r (length out)) (replay base version1 script ++ drop r out) out
+  pub compared : {r : ℕ} {b : Bool} (out left : List ℕ) → 65536 ≡ length out → r ≡ length (replay base versions script) → r ≤ 65536
+      → left ≡ choose (leb r (length out)) (replay base versions script ++ drop r out) out
       → (b ≡ true → take r left ≡ stored) → (take r left ≡ stored → b ≡ true) → b ≡ agrees script stored
   unfolding agrees
   compared {r} {b} out left n e h k f g =
-      let q : length (replay base version1 script) ≤ 65536 = omega arith in
-      let w = took (replay base version1 script) out left r e (omega arith) k in
-      same-equal b (replay base version1 script) stored (λ t. sym w ∙ f t) (λ t. g (w ∙ t))
-      ∙ sym (ap (λ (c : Bool). c && equal (replay base version1 script) stored) (le-leb (length (replay base version1 script)) 65536 q))
+      let q : length (replay base versions script) ≤ 65536 = omega arith in
+      let w = took (replay base versions script) out left r e (omega arith) k in
+      same-equal b (replay base versions script) stored (λ t. sym w ∙ f t) (λ t. g (w ∙ t))
+      ∙ sym (ap (λ (c : Bool). c && equal (replay base versions script) stored) (le-leb (length (replay base versions script)) 65536 q))
 
 -- ---- counting
 module _ (t : Tally) where

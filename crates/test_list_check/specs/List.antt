@@ -8,7 +8,7 @@ use lib.Dec.{leb, eqb}
 use Rattle.lists.specs.Lists.{choose}
 use Rattle.layout.specs.Bits.{fieldAt}
 use Rattle.rules.specs.Outcome.{base}
-use Rattle.rules.specs.Script.{version1}
+use Rattle.rules.specs.Script.{versions}
 use Rattle.rules.specs.Program.{replay}
 use Rattle.test_list_check.specs.declared.Tally.{Tally}
 
@@ -38,7 +38,7 @@ equal (x ∷ l) (y ∷ m) = eqb x y && equal l m
 
 -- An output that is too long for the buffer counts as another one.
 unfoldable pub agrees : List ℕ → List ℕ → Bool
-agrees script stored = leb (length (replay base version1 script)) 65536 && equal (replay base version1 script) stored
+agrees script stored = leb (length (replay base versions script)) 65536 && equal (replay base versions script) stored
 
 unfoldable pub right : List ℕ → Bool
 right l = agrees (partOf l) (partOf (second l))

@@ -2,7 +2,7 @@
 -- Assumes nothing.
 use borrow.Author.Needs.{needs}
 use Rattle.rules.specs.Outcome.{base}
-use Rattle.rules.specs.Script.{version1}
+use Rattle.rules.specs.Script.{versions}
 use Rattle.rules.specs.Program.{replay}
 use Rattle.test_list_check.proofs.Laws.{taken-size, too-long, compared}
 use Rattle.test_list_check.proofs.agree.Statement.{statement}
@@ -27,7 +27,7 @@ slice-aggregate-same : tie.Need-slice-aggregate-same
 slice-aggregate-same c =
     let z = c .before .before .before in
     let s = z .before .before .before .before .before .args .script .now in
-    taken-size (replay base version1 s) (z .before .before .large-buffer .result) _ (z .before .before .large-buffer .ensures) (z .replay .ensures .0) (c .before .if1 .left) (z .replay .ensures .1)
+    taken-size (replay base versions s) (z .before .before .large-buffer .result) _ (z .before .before .large-buffer .ensures) (z .replay .ensures .0) (c .before .if1 .left) (z .replay .ensures .1)
 
 same-requires : tie.Need-same-requires
 same-requires c κs = search needs

@@ -1,3 +1,4 @@
+-- The answer is good in one case of the layout.
 use mathlib.Core.Path.{sym, ap, _∙_}
 use Rattle.test_states.specs.Views.{isGood}
 use borrow.Author.Needs.{needs}
@@ -17,10 +18,10 @@ enum-told-2 : tie.Need-enum-told-2
 enum-told-2 c = search needs
 
 returns : tie.Need-returns
-returns c = sym (ap isGood (sym (c .before .before .check-script .ensures .0) ∙ c .enum-told .given .1))
+returns c = ap isGood (sym (c .enum-told .given .1) ∙ c .before .before .check-script .ensures .0)
 
 returns-2 : tie.Need-returns-2
-returns-2 c = sym (ap isGood (sym (c .before .before .check-script .ensures .0) ∙ c .enum-told2 .given .1))
+returns-2 c = ap isGood (sym (c .enum-told2 .given .1) ∙ c .before .before .check-script .ensures .0)
 
 pub states-reads-spec : {M : Type 1} → statement M
 states-reads-spec =
