@@ -110,7 +110,7 @@ module _ {M : Type 1} (𝓤 : URA M) (H : Heap 𝓤) (A : Atoms 𝓤) (W : Given
       qed W (‵ ftrue ∷ []) ∵ nothing ! $ owned ! u8 (Is u8) (uint-makes 𝓤 H A W w8) n _ (refl, fits) $ fjoin ! $
       owned ! T.the-row (Is T.the-row) ((LL.makes T.the-type T′.the-plain) 𝓤 H A) h _ was $ fjoin ! $ move ! (1 ∷ 0 ∷ []) $ join ! $ frame ! $ done !
 
-  -- The set in the struct that came back has 32 bits.
+  -- The set in the struct that came back is a word.
   small : (r : Change) (v : Val) → Is TC.the-row r (v ∷ []) → r .timers .0 < 2 ^ 32
   small r v is = LL.owed T.the-type T′.the-laws (r .timers) _ (LL.owed TC.the-type TC′.the-laws r _ is .1 .0) .0 .1
 
