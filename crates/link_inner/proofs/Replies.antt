@@ -15,6 +15,7 @@ use Rattle.lists.specs.Lists.{choose, all, lead, pad}
 use Rattle.lists.proofs.Members.{and-both, every-cons, all-in, get-in}
 use Rattle.lists.proofs.Places.{append-pad}
 use Rattle.lists.proofs.Walks.{map-back}
+use Rattle.types.specs.Capacities.{mostCommands, mostRules}
 use Rattle.types.specs.declared.Id.{Id}
 use Rattle.types.specs.declared.Storage.{Storage}
 use Rattle.types.specs.declared.Storage.the-variants.{Nothing, Value}
@@ -49,19 +50,19 @@ module _ (s : Id) (v : ℕ) where
   told-snoc [] x = refl
   told-snoc (y ∷ l) x = ap (λ (r : List InnerSlot). slot (told s v (y .command)) ∷ r) (told-snoc l x)
 
-  pub told-none : (cs : List Slot) → replicate 4 (slot (SetTimer 0)) ≡ tellings (take 0 cs)
+  pub told-none : (cs : List Slot) → replicate mostCommands (slot (SetTimer 0)) ≡ tellings (take 0 cs)
   unfolding pad
   told-none cs = refl
 
-  pub told-next : (cs : List Slot) (i : ℕ) (d : Slot) (out : List InnerSlot) → i < length cs → i < 4 → out ≡ tellings (take i cs) → set out i (slot (told s v (getD cs i d .command))) ≡ tellings (take (i + 1) cs)
+  pub told-next : (cs : List Slot) (i : ℕ) (d : Slot) (out : List InnerSlot) → i < length cs → i < mostCommands → out ≡ tellings (take i cs) → set out i (slot (told s v (getD cs i d .command))) ≡ tellings (take (i + 1) cs)
   unfolding told-slots
   told-next cs i d out h k e =
       let n : length (told-slots (take i cs)) ≡ i = told-length (take i cs) ∙ length-take-le i cs (omega arith) in
       let x : InnerSlot = slot (told s v (getD cs i d .command)) in
       ap (λ (l : List InnerSlot). set l i x) e
-      ∙ ap (λ (j : ℕ). set (pad 4 (slot (SetTimer 0)) (told-slots (take i cs))) j x) (sym n)
-      ∙ append-pad 4 (told-slots (take i cs)) x (slot (SetTimer 0)) (omega arith)
-      ∙ ap (pad 4 (slot (SetTimer 0))) (sym (told-snoc (take i cs) (getD cs i d)) ∙ ap told-slots (sym (take-suc cs i d h) ∙ ap (λ (j : ℕ). take j cs) (sym (add-one i))))
+      ∙ ap (λ (j : ℕ). set (pad mostCommands (slot (SetTimer 0)) (told-slots (take i cs))) j x) (sym n)
+      ∙ append-pad mostCommands (told-slots (take i cs)) x (slot (SetTimer 0)) (omega arith)
+      ∙ ap (pad mostCommands (slot (SetTimer 0))) (sym (told-snoc (take i cs) (getD cs i d)) ∙ ap told-slots (sym (take-suc cs i d h) ∙ ap (λ (j : ℕ). take j cs) (sym (add-one i))))
 
 pub told-all : (s : Id) (v : ℕ) (r : Rule) → tellings s v (take (r .used) (r .commands)) ≡ slotsOf (map (told s v) (commandsOf r))
 unfolding commandsOf
@@ -110,25 +111,25 @@ module _ (ev st : ℕ) (s : Id) (v : ℕ) (d : Rule) where
       g ∙ ap reactionOf (ap (λ (j : ℕ). decided s v (getD rs j d)) e ∙ sym (reply-found rs w))
 
   pub ignores : (rs : List Rule) (at : ℕ) → at ≡ lead (mismatches ev st v) rs → length rs ≤ at
-      → _≡_ {A = Reaction} (record { touched = false; state = st; commands = replicate 4 (slot (SetTimer 0)); used = 0 }) (reactionOf (reply rs ev st s v))
+      → _≡_ {A = Reaction} (record { touched = false; state = st; commands = replicate mostCommands (slot (SetTimer 0)); used = 0 }) (reactionOf (reply rs ev st s v))
   unfolding pad
   ignores rs at e h = ap reactionOf (sym (reply-none rs (omega arith)))
 
 -- A rule of a sound table has at most 4 commands.
-rule-used : (r : Rule) → ruleOk r ≡ true → r .used ≤ 4
+rule-used : (r : Rule) → ruleOk r ≡ true → r .used ≤ mostCommands
 unfolding ruleOk
 rule-used r e =
     let b = every-cons _ _ e in let c = every-cons _ _ (b .1) in let d = every-cons _ _ (c .1) in leb-true _ _ (every-cons _ _ (d .1) .0)
 
 pub sound-rules : (rs : List Rule) → sound rs ≡ true → all ruleOk rs ≡ true
 unfolding sound
-sound-rules rs e = and-both (leb (length rs) 16) _ e .1
+sound-rules rs e = and-both (leb (length rs) mostRules) _ e .1
 
-pub sound-used : (rs : List Rule) (i : ℕ) → sound rs ≡ true → i < length rs → getD rs i outside .used ≤ 4
+pub sound-used : (rs : List Rule) (i : ℕ) → sound rs ≡ true → i < length rs → getD rs i outside .used ≤ mostCommands
 sound-used rs i e h = rule-used (getD rs i outside) (all-in ruleOk rs (sound-rules rs e) (getD rs i outside) (get-in rs i outside h))
 
 -- A reply to a sound table has at most 4 commands, so the struct says all of it.
-decided-few : (s : Id) (v : ℕ) (r : Rule) → ruleOk r ≡ true → length (decided s v r .out) ≤ 4
+decided-few : (s : Id) (v : ℕ) (r : Rule) → ruleOk r ≡ true → length (decided s v r .out) ≤ mostCommands
 unfolding decided commandsOf
 decided-few s v r e =
     let u = rule-used r e in
@@ -136,21 +137,21 @@ decided-few s v r e =
     let n = length-map (take (r .used) (r .commands)) (λ (x : Slot). x .command) in
     omega (arith, length-take (r .used) (r .commands))
 
-pub reply-few : (rs : List Rule) (ev st : ℕ) (s : Id) (v : ℕ) → all ruleOk rs ≡ true → length (reply rs ev st s v .out) ≤ 4
+pub reply-few : (rs : List Rule) (ev st : ℕ) (s : Id) (v : ℕ) → all ruleOk rs ≡ true → length (reply rs ev st s v .out) ≤ mostCommands
 unfolding reply choose all
 reply-few [] ev st s v e = zero-le
 reply-few (r ∷ rs) ev st s v e = let a = and-both (ruleOk r) _ e in go (matches ev st v r) (decided-few s v r (a .0)) (reply-few rs ev st s v (a .1))
   where
-    go : (b : Bool) → length (decided s v r .out) ≤ 4 → length (reply rs ev st s v .out) ≤ 4 → length (choose b (decided s v r) (reply rs ev st s v) .out) ≤ 4
+    go : (b : Bool) → length (decided s v r .out) ≤ mostCommands → length (reply rs ev st s v .out) ≤ mostCommands → length (choose b (decided s v r) (reply rs ev st s v) .out) ≤ mostCommands
     go true h k = h
     go false h k = k
 
-pub start-few : (rs : List Rule) (v : Storage) → all ruleOk rs ≡ true → length (atStart rs v .out) ≤ 4
+pub start-few : (rs : List Rule) (v : Storage) → all ruleOk rs ≡ true → length (atStart rs v .out) ≤ mostCommands
 unfolding atStart
 start-few rs Nothing e = reply-few rs 0 0 nobody 0 e
 start-few rs (Value v) e = reply-few rs 1 0 nobody v e
 
-pub reply-back : (y : Reply) → length (y .out) ≤ 4 → replyOf (reactionOf y) ≡ y
+pub reply-back : (y : Reply) → length (y .out) ≤ mostCommands → replyOf (reactionOf y) ≡ y
 unfolding pad
 reply-back y h =
     let n = length-map (y .out) slot in

@@ -10,6 +10,7 @@ use borrow.Author.Tests.{leb-true, eqb-true, not-true}
 use Rattle.lists.specs.Lists.{all, every}
 use Rattle.lists.proofs.Members.{every-cons}
 use Rattle.lists.proofs.Walks.{all-map, all-same, every-append}
+use Rattle.types.specs.Capacities.{mostCommands, mostRules, lastState}
 use Rattle.types.specs.declared.RuleCommand.{RuleCommand}
 use Rattle.types.specs.declared.RuleCommand.the-variants.{SetTimer, CancelTimer, Send, Save}
 use Rattle.types.specs.declared.Slot.{Slot}
@@ -29,7 +30,7 @@ slots-commands r = all-map (commandOk (r .event)) (λ (s : Slot). s .command) (t
 
 -- A rule's numbers, and the other parts of its test.
 unfoldable pub ranges : Rule → Bool
-ranges r = every (leb (r .event) 3 ∷ leb (r .state) 15 ∷ leb (r .next) 15 ∷ leb (r .used) 4 ∷ leb (r .low) (r .high) ∷ [])
+ranges r = every (leb (r .event) 3 ∷ leb (r .state) lastState ∷ leb (r .next) lastState ∷ leb (r .used) mostCommands ∷ leb (r .low) (r .high) ∷ [])
 
 abbrev others : Rule → List Bool
 others r = (leb 2 (r .event) || (eqb (r .state) 0 && r .touched)) ∷ (r .touched || eqb (r .next) (r .state))
@@ -37,16 +38,16 @@ others r = (leb 2 (r .event) || (eqb (r .state) 0 && r .touched)) ∷ (r .touche
 
 pub rule-parts : (r : Rule) → ruleOk r ≡ every (ranges r ∷ others r)
 unfolding ruleOk ranges every
-rule-parts r = every-append (leb (r .event) 3 ∷ leb (r .state) 15 ∷ leb (r .next) 15 ∷ leb (r .used) 4 ∷ leb (r .low) (r .high) ∷ []) (others r)
+rule-parts r = every-append (leb (r .event) 3 ∷ leb (r .state) lastState ∷ leb (r .next) lastState ∷ leb (r .used) mostCommands ∷ leb (r .low) (r .high) ∷ []) (others r)
 
-pub ranges-used : (r : Rule) → ranges r ≡ true → r .used ≤ 4
+pub ranges-used : (r : Rule) → ranges r ≡ true → r .used ≤ mostCommands
 unfolding ranges
 ranges-used r e =
     let a = every-cons _ _ e in let b = every-cons _ _ (a .1) in let c = every-cons _ _ (b .1) in leb-true _ _ (every-cons _ _ (c .1) .0)
 
 -- What a table that passes the test is.
 pub record Fine (t : Table) : Type 0 where
-  pub fit : t .used ≤ 16
+  pub fit : t .used ≤ mostRules
   pub rest : all blankRule (drop (t .used) (t .rules)) ≡ true
   pub good : sound (rulesOf t) ≡ true
 
@@ -56,7 +57,7 @@ table-is t e = let a = every-cons _ _ e in let b = every-cons _ _ (a .1) in reco
 
 -- A rule with its 4 places that is found blank is the zero rule, and no other.
 abbrev pub zeroRule : Rule
-zeroRule = record { event = 0; state = 0; low = 0; high = 0; touched = false; next = 0; commands = replicate 4 zeroSlot; used = 0 }
+zeroRule = record { event = 0; state = 0; low = 0; high = 0; touched = false; next = 0; commands = replicate mostCommands zeroSlot; used = 0 }
 
 zero-command : (c : RuleCommand) → zeroCommand c ≡ true → c ≡ SetTimer 0
 unfolding zeroCommand
@@ -69,14 +70,14 @@ zero-slot : (s : Slot) → unused s ≡ true → s ≡ zeroSlot
 unfolding unused
 zero-slot s e = let f = zero-command (s .command) e in λ i. record { command = f i }
 
-pub blank-is : (r : Rule) → length (r .commands) ≡ 4 → blankRule r ≡ true → r ≡ zeroRule
+pub blank-is : (r : Rule) → length (r .commands) ≡ mostCommands → blankRule r ≡ true → r ≡ zeroRule
 unfolding blankRule
 blank-is r n e =
     let a = every-cons _ _ e in let b = every-cons _ _ (a .1) in let c = every-cons _ _ (b .1) in let d = every-cons _ _ (c .1) in
     let f = every-cons _ _ (d .1) in let g = every-cons _ _ (f .1) in let h = every-cons _ _ (g .1) in let k = every-cons _ _ (h .1) in
     let e1 = eqb-true (r .event) 0 (a .0) in let e2 = eqb-true (r .state) 0 (b .0) in let e3 = eqb-true (r .low) 0 (c .0) in let e4 = eqb-true (r .high) 0 (d .0) in
     let e5 = not-true (r .touched) (f .0) in let e6 = eqb-true (r .next) 0 (g .0) in let e7 = eqb-true (r .used) 0 (h .0) in
-    let e8 : r .commands ≡ replicate 4 zeroSlot = all-same unused zeroSlot zero-slot (r .commands) (k .0) ∙ ap (λ (m : ℕ). replicate m zeroSlot) n in
+    let e8 : r .commands ≡ replicate mostCommands zeroSlot = all-same unused zeroSlot zero-slot (r .commands) (k .0) ∙ ap (λ (m : ℕ). replicate m zeroSlot) n in
     λ i. record { event = e1 i; state = e2 i; low = e3 i; high = e4 i; touched = e5 i; next = e6 i; commands = e8 i; used = e7 i }
 
 pub zero-blank : blankRule zeroRule ≡ true

@@ -6,6 +6,7 @@ use mathlib.Core.List.{List, [], _∷_, map}
 use lib.ListN.{length, take, drop}
 use lib.Dec.{leb, eqb}
 use Rattle.lists.specs.Lists.{all, every, pad}
+use Rattle.types.specs.Capacities.{mostCommands, mostRules}
 use Rattle.types.specs.declared.InnerCommand.{InnerCommand}
 use Rattle.types.specs.declared.InnerCommand.the-variants.{SetTimer}
 use Rattle.types.specs.declared.Rule.{Rule}
@@ -24,14 +25,14 @@ mismatches event state value r = not (matches event state value r)
 abbrev pub slot : InnerCommand → InnerSlot
 slot c = record { command = c }
 
--- The commands in their 4 places; the others are zero.
+-- The commands in their places; the others are zero.
 abbrev pub slotsOf : List InnerCommand → List InnerSlot
-slotsOf l = pad 4 (slot (SetTimer 0)) (map slot l)
+slotsOf l = pad mostCommands (slot (SetTimer 0)) (map slot l)
 
 abbrev pub reactionOf : Reply → Reaction
 reactionOf r = record { touched = r .touched; state = r .state; commands = slotsOf (r .out); used = length (r .out) }
 
--- What a reaction says: the used ones of its 4 places.
+-- What a reaction says: the used ones of its places.
 abbrev pub replyOf : Reaction → Reply
 replyOf r = record { touched = r .touched; state = r .state; out = map (λ (s : InnerSlot). s .command) (take (r .used) (r .commands)) }
 
@@ -43,4 +44,4 @@ blankRule r = every
 
 -- The count fits, the places that are not used are zero, and the rules are sound.
 unfoldable pub tableOk : Table → Bool
-tableOk t = every (leb (t .used) 16 ∷ all blankRule (drop (t .used) (t .rules)) ∷ sound (rulesOf t) ∷ [])
+tableOk t = every (leb (t .used) mostRules ∷ all blankRule (drop (t .used) (t .rules)) ∷ sound (rulesOf t) ∷ [])

@@ -1,6 +1,9 @@
 // The inner actor: the look-up of a rule in its table, and the test of a table.
 use types::Id;
 use types::InnerCommand;
+use types::LAST_STATE;
+use types::MOST_COMMANDS;
+use types::MOST_RULES;
 use types::NETWORK;
 use types::Payload;
 use types::Rule;
@@ -13,6 +16,7 @@ ghost use Prim.Native.Nat.{_≤_};
 ghost use lib.ListN.{drop};
 ghost use lib.Dec.{leb, eqb};
 ghost use Rattle.lists.specs.Lists.{choose, all, every, lead};
+ghost use Rattle.types.specs.Capacities.{mostCommands, mostRules, lastState};
 ghost use Rattle.rules.specs.Inner.{matches, told, commandsOf, decided, reply, atStart};
 ghost use Rattle.rules.specs.WellFormed.{commandOk, zeroCommand, unused, ruleOk};
 ghost use Rattle.link_inner.specs.Views.{rulesOf, mismatches, slotsOf, reactionOf, blankRule, tableOk};
@@ -25,13 +29,13 @@ pub struct InnerSlot {
 pub struct Reaction {
     pub touched: bool,
     pub state: u8,
-    pub commands: [InnerSlot; 4],
+    pub commands: [InnerSlot; MOST_COMMANDS],
     pub used: usize,
 }
 
 // Places from the used count on hold the zero rule.
 pub struct Table {
-    pub rules: [Rule; 16],
+    pub rules: [Rule; MOST_RULES],
     pub used: usize,
 }
 
@@ -56,7 +60,7 @@ fn rule_matches(r: Rule, event: u8, state: u8, value: u32) -> bool
 
 // The place of the first rule that matches, or the count.
 fn first_match(t: Table, event: u8, state: u8, value: u32) -> usize
-    requires { ⌜ t .used ≤ 16 ⌝ }
+    requires { ⌜ t .used ≤ mostRules ⌝ }
     ensures { λ r. ⌜ r ≡ lead (mismatches event state value) (rulesOf t) ⌝ }
 {
     let used = t.used;
@@ -119,15 +123,15 @@ fn told_by(c: RuleCommand, source: Id, value: u32) -> InnerCommand
 }
 
 // All commands of a rule.
-fn commands_by(r: Rule, source: Id, value: u32) -> [InnerSlot; 4]
-    requires { ⌜ r .used ≤ 4 ⌝ }
+fn commands_by(r: Rule, source: Id, value: u32) -> [InnerSlot; MOST_COMMANDS]
+    requires { ⌜ r .used ≤ mostCommands ⌝ }
     ensures { λ x. ⌜ x ≡ slotsOf (map (told source value) (commandsOf r)) ⌝ }
 {
     let used = r.used;
     let cs = r.commands;
     let mut out = [InnerSlot {
         command: InnerCommand::SetTimer(0),
-    }; 4];
+    }; MOST_COMMANDS];
     let mut i = 0;
     while i < used {
         let s = cs[i];
@@ -141,7 +145,7 @@ fn commands_by(r: Rule, source: Id, value: u32) -> [InnerSlot; 4]
 
 // What a rule that matches gives.
 fn reaction_by(r: Rule, source: Id, value: u32) -> Reaction
-    requires { ⌜ r .used ≤ 4 ⌝ }
+    requires { ⌜ r .used ≤ mostCommands ⌝ }
     ensures { λ x. ⌜ x ≡ reactionOf (decided source value r) ⌝ }
 {
     let out = commands_by(r, source, value);
@@ -170,7 +174,7 @@ pub fn react(t: Table, event: u8, state: u8, source: Id, value: u32) -> Reaction
         state: state,
         commands: [InnerSlot {
             command: InnerCommand::SetTimer(0),
-        }; 4],
+        }; MOST_COMMANDS],
         used: 0,
     }
 }
@@ -240,7 +244,7 @@ fn zero_command(c: RuleCommand) -> bool
 
 // The commands that are used.
 fn commands_ok(r: Rule) -> bool
-    requires { ⌜ r .used ≤ 4 ⌝ }
+    requires { ⌜ r .used ≤ mostCommands ⌝ }
     ensures { λ x. ⌜ x ≡ all (commandOk (r .event)) (commandsOf r) ⌝ }
 {
     let used = r.used;
@@ -260,12 +264,12 @@ fn commands_ok(r: Rule) -> bool
 
 // The commands from a place on are not used.
 fn slots_unused(r: Rule, from: usize) -> bool
-    requires { ⌜ from ≤ 4 ⌝ }
+    requires { ⌜ from ≤ mostCommands ⌝ }
     ensures { λ x. ⌜ x ≡ all unused (drop from (r .commands)) ⌝ }
 {
     let cs = r.commands;
     let mut i = from;
-    while i < 4 {
+    while i < MOST_COMMANDS {
         let s = cs[i];
         let k = s.command;
         if !zero_command(k) {
@@ -278,18 +282,18 @@ fn slots_unused(r: Rule, from: usize) -> bool
 
 // The numbers are in script range, and low is at most high.
 fn ranges_ok(r: Rule) -> bool
-    ensures { λ x. ⌜ x ≡ every (leb (r .event) 3 ∷ leb (r .state) 15 ∷ leb (r .next) 15 ∷ leb (r .used) 4 ∷ leb (r .low) (r .high) ∷ []) ⌝ }
+    ensures { λ x. ⌜ x ≡ every (leb (r .event) 3 ∷ leb (r .state) lastState ∷ leb (r .next) lastState ∷ leb (r .used) mostCommands ∷ leb (r .low) (r .high) ∷ []) ⌝ }
 {
     if 3 < r.event {
         return false;
     }
-    if 15 < r.state {
+    if LAST_STATE < r.state {
         return false;
     }
-    if 15 < r.next {
+    if LAST_STATE < r.next {
         return false;
     }
-    if 4 < r.used {
+    if MOST_COMMANDS < r.used {
         return false;
     }
     r.low <= r.high
@@ -366,7 +370,7 @@ fn blank_rule(r: Rule) -> bool
 
 // The rules that are used.
 fn rules_ok(t: Table) -> bool
-    requires { ⌜ t .used ≤ 16 ⌝ }
+    requires { ⌜ t .used ≤ mostRules ⌝ }
     ensures { λ x. ⌜ x ≡ all ruleOk (rulesOf t) ⌝ }
 {
     let used = t.used;
@@ -384,12 +388,12 @@ fn rules_ok(t: Table) -> bool
 
 // The others.
 fn rest_blank(t: Table) -> bool
-    requires { ⌜ t .used ≤ 16 ⌝ }
+    requires { ⌜ t .used ≤ mostRules ⌝ }
     ensures { λ x. ⌜ x ≡ all blankRule (drop (t .used) (t .rules)) ⌝ }
 {
     let rules = t.rules;
     let mut i = t.used;
-    while i < 16 {
+    while i < MOST_RULES {
         let here = rules[i];
         if !blank_rule(here) {
             return false;
@@ -403,7 +407,7 @@ fn rest_blank(t: Table) -> bool
 pub fn sound_table(t: Table) -> bool
     ensures { λ x. ⌜ x ≡ tableOk t ⌝ }
 {
-    if 16 < t.used {
+    if MOST_RULES < t.used {
         return false;
     }
     if !rest_blank(t) {

@@ -4,13 +4,14 @@ use Prim.Native.Nat.{ℕ, _≤_, _-_}
 use mathlib.Core.Path.{_≡_, refl, ap, _∙_}
 use lib.ListN.{length, take, set}
 use Rattle.lists.proofs.Places.{length-mapped}
+use Rattle.types.specs.Capacities.{mostCommands}
 use Rattle.link_inner.specs.Views.{slot}
 use Rattle.link_inner.proofs.Replies.{tellings, told-none, told-next, told-all}
 use Rattle.link_inner.proofs.commands_by.Statement.{statement}
 use Rattle.link_inner.proofs.commands_by.Tie as tie
 
 abbrev Inv-loop : tie.InvT-loop
-Inv-loop source value used cs out₀ i₀ out i = (i ≤ used) × (length out ≡ 4) × (out ≡ tellings source value (take i cs))
+Inv-loop source value used cs out₀ i₀ out i = (i ≤ used) × (length out ≡ mostCommands) × (out ≡ tellings source value (take i cs))
 
 abbrev μ-loop : tie.MeasureT-loop
 μ-loop source value used cs out₀ i₀ out i = used - i
@@ -43,7 +44,7 @@ loop-again : tie.Need-loop-again Inv-loop μ-loop
 loop-again c =
     let a = c .before .before .before .before .before .args in
     let l = c .before .before .before .loop in
-    let n : length (a .r .commands) ≡ 4 = search (needs, length-mapped) in (
+    let n : length (a .r .commands) ≡ mostCommands = search (needs, length-mapped) in (
       search needs,
       search needs,
       ap (λ x. set (l .out) (l .i) (slot x)) (c .told-by .ensures) ∙ told-next (a .source) (a .value) (a .r .commands) (l .i) _ (l .out) (search needs) (search needs) (l .inv .2),

@@ -1,4 +1,5 @@
 use borrow.Author.Tests.{not-true, not-false}
+use Rattle.types.specs.Capacities.{mostCommands}
 use Rattle.rules.specs.Inner.{zeroSlot}
 use borrow.Author.Needs.{needs}
 use native.Mathlib.Omega.{arith}
@@ -33,7 +34,7 @@ command-ok-requires c κs = search needs
 returns : tie.Need-returns Inv-loop μ-loop
 returns c =
     let a = c .before .before .before .before .before .before .args .r in let l = c .before .before .before .before .loop in
-    let n : length (a .commands) ≡ 4 = search (needs, length-mapped) in
+    let n : length (a .commands) ≡ mostCommands = search (needs, length-mapped) in
     walk-fails (slotOk (a .event)) (a .commands) (a .used) zeroSlot (omega arith) (l .i) _ (search needs) (sym (c .before .command-ok .ensures) ∙ not-true (c .before .command-ok .result) (c .if1 .taken)) (l .inv .1 ∙ slots-commands a)
 
 add-i : tie.Need-add-i Inv-loop μ-loop
@@ -45,13 +46,13 @@ loop-less c = search needs
 loop-again : tie.Need-loop-again Inv-loop μ-loop
 loop-again c =
     let a = c .before .before .before .before .before .before .args .r in let l = c .before .before .before .before .loop in
-    let n : length (a .commands) ≡ 4 = search (needs, length-mapped) in
+    let n : length (a .commands) ≡ mostCommands = search (needs, length-mapped) in
     (search needs, walk-on (slotOk (a .event)) (a .commands) (a .used) zeroSlot (omega arith) (l .i) _ (search needs) (sym (c .before .command-ok .ensures) ∙ not-false (c .before .command-ok .result) (c .if1 .left)) (l .inv .1))
 
 returns-2 : tie.Need-returns-2 Inv-loop μ-loop
 returns-2 c =
     let a = c .before .before .before .args .r in let l = c .before .loop in
-    let n : length (a .commands) ≡ 4 = search (needs, length-mapped) in
+    let n : length (a .commands) ≡ mostCommands = search (needs, length-mapped) in
     walk-ends (slotOk (a .event)) (a .commands) (a .used) zeroSlot (omega arith) (l .i) _ (search needs) (l .inv .1 ∙ slots-commands a)
 
 pub commands-ok-spec : {M : Type 1} → statement M

@@ -5,6 +5,7 @@ use mathlib.Core.Path.{_≡_, sym, ap, _∙_}
 use mathlib.Core.Bool.{true, not}
 use lib.ListN.{length, getD}
 use Rattle.lists.proofs.Places.{lead-first, length-mapped}
+use Rattle.types.specs.Capacities.{mostRules}
 use Rattle.link_inner.specs.Views.{mismatches}
 use Rattle.link_inner.proofs.Replies.{outside}
 use borrow.Author.Needs.{needs}
@@ -33,7 +34,7 @@ returns : tie.Need-returns Inv-loop μ-loop
 returns c =
     let a = c .before .before .before .before .before .before .args in
     let l = c .before .before .before .before .loop in
-    let n : length (a .t .rules) ≡ 16 = search (needs, length-mapped) in
+    let n : length (a .t .rules) ≡ mostRules = search (needs, length-mapped) in
     lead-first (mismatches (a .event) (a .state) (a .value)) (a .t .rules) (a .t .used) (l .i) outside (search needs) (search needs) (l .inv .1)
     (λ h. ap not (sym (c .before .rule-matches .ensures) ∙ c .if1 .taken))
 
@@ -52,7 +53,7 @@ returns-2 : tie.Need-returns-2 Inv-loop μ-loop
 returns-2 c =
     let a = c .before .before .before .args in
     let l = c .before .loop in
-    let n : length (a .t .rules) ≡ 16 = search (needs, length-mapped) in
+    let n : length (a .t .rules) ≡ mostRules = search (needs, length-mapped) in
     lead-first (mismatches (a .event) (a .state) (a .value)) (a .t .rules) (a .t .used) (l .i) outside (search needs) (search needs) (l .inv .1) (λ h. absurd (omega arith))
 
 pub first-match-spec : {M : Type 1} → statement M

@@ -4,6 +4,7 @@ use mathlib.Core.Path.{_≡_}
 use lib.ListN.{length}
 use lib.Seq.{getD-take, length-take-le}
 use Rattle.lists.proofs.Places.{length-mapped}
+use Rattle.types.specs.Capacities.{mostRules}
 use Rattle.link_inner.specs.declared.Table.{Table}
 use Rattle.link_inner.specs.Views.{rulesOf}
 use Rattle.link_inner.proofs.Tables.{table-is}
@@ -13,7 +14,7 @@ use Rattle.link_inner.proofs.react.Statement.{statement}
 use Rattle.link_inner.proofs.react.Tie as tie
 
 -- the table has as many rules as it says
-size : (t : Table) → length (t .rules) ≡ 16 → t .used ≤ 16 → length (rulesOf t) ≡ t .used
+size : (t : Table) → length (t .rules) ≡ mostRules → t .used ≤ mostRules → length (rulesOf t) ≡ t .used
 size t n u = length-take-le (t .used) (t .rules) (omega arith)
 
 first-match-requires : tie.Need-first-match-requires

@@ -7,6 +7,7 @@ use borrow.Author.Tests.{not-true, not-false}
 use Rattle.lists.specs.Lists.{all}
 use Rattle.lists.proofs.Places.{length-mapped}
 use Rattle.lists.proofs.Walks.{walk-on, walk-fails, walk-ends}
+use Rattle.types.specs.Capacities.{mostRules}
 use Rattle.rules.specs.WellFormed.{ruleOk}
 use Rattle.link_inner.proofs.Replies.{outside}
 use Rattle.link_inner.proofs.rules_ok.Statement.{statement}
@@ -33,7 +34,7 @@ rule-ok-requires c κs = search needs
 returns : tie.Need-returns Inv-loop μ-loop
 returns c =
     let a = c .before .before .before .before .before .before .args .t in let l = c .before .before .before .before .loop in
-    let n : length (a .rules) ≡ 16 = search (needs, length-mapped) in
+    let n : length (a .rules) ≡ mostRules = search (needs, length-mapped) in
     walk-fails ruleOk (a .rules) (a .used) outside (omega arith) (l .i) _ (search needs) (sym (c .before .rule-ok .ensures) ∙ not-true (c .before .rule-ok .result) (c .if1 .taken)) (l .inv .1)
 
 add-i : tie.Need-add-i Inv-loop μ-loop
@@ -45,13 +46,13 @@ loop-less c = search needs
 loop-again : tie.Need-loop-again Inv-loop μ-loop
 loop-again c =
     let a = c .before .before .before .before .before .before .args .t in let l = c .before .before .before .before .loop in
-    let n : length (a .rules) ≡ 16 = search (needs, length-mapped) in
+    let n : length (a .rules) ≡ mostRules = search (needs, length-mapped) in
     (search needs, walk-on ruleOk (a .rules) (a .used) outside (omega arith) (l .i) _ (search needs) (sym (c .before .rule-ok .ensures) ∙ not-false (c .before .rule-ok .result) (c .if1 .left)) (l .inv .1))
 
 returns-2 : tie.Need-returns-2 Inv-loop μ-loop
 returns-2 c =
     let a = c .before .before .before .args .t in let l = c .before .loop in
-    let n : length (a .rules) ≡ 16 = search (needs, length-mapped) in
+    let n : length (a .rules) ≡ mostRules = search (needs, length-mapped) in
     walk-ends ruleOk (a .rules) (a .used) outside (omega arith) (l .i) _ (search needs) (l .inv .1)
 
 pub rules-ok-spec : {M : Type 1} → statement M
