@@ -13,6 +13,7 @@ use Rattle.lists.specs.Lists.{all, chain, endsIn, every, lead, del, pad, shrink
 use Rattle.lists.proofs.Members.{every-cons, every-make, every-nil}
 use Rattle.lists.proofs.Walks.{all-same}
 use Rattle.lists.proofs.Places.{length-del, cut-found, cut-missing, laid-length, laid-get, laid-shrink, laid-append, laid-write, write-within, write-beyond}
+use Rattle.types.specs.Capacities.{mostPending, mostActors}
 use Rattle.types.specs.declared.Id.{Id}
 use Rattle.types.specs.declared.Number.{Number}
 use Rattle.types.specs.declared.Pending.{Pending}
@@ -61,7 +62,7 @@ pad-view n z l = take-at l _ (length l) refl
 
 -- ---- pending records
 abbrev pub PendingLaid : Pendings → Type 0
-PendingLaid p = Laid 32 zeroPending (p .records) (p .used)
+PendingLaid p = Laid mostPending zeroPending (p .records) (p .used)
 
 blank-pending : (q : Pending) → blankPending q ≡ true → q ≡ zeroPending
 unfolding blankPending
@@ -70,20 +71,20 @@ blank-pending q e =
     let x = eqb-true (q .number .0) 0 (a .0) in let y = eqb-true (q .dst .0) 0 (b .0) in let z = eqb-true (q .payload .0) 0 (c .0) in
     λ i. record { number = record { 0 = x i }; dst = record { 0 = y i }; payload = record { 0 = z i } }
 
-pub pendings-are : (p : Pendings) → length (p .records) ≡ 32 → pendingsLaid p ≡ true → PendingLaid p
+pub pendings-are : (p : Pendings) → length (p .records) ≡ mostPending → pendingsLaid p ≡ true → PendingLaid p
 unfolding pendingsLaid
-pendings-are p n e = laid-is blankPending zeroPending blank-pending 32 (p .records) (p .used) n e
+pendings-are p n e = laid-is blankPending zeroPending blank-pending mostPending (p .records) (p .used) n e
 
-pub pendings-of : (l : List Pending) → length l ≤ 32 → pendingsLaid (pendingsOf l) ≡ true
+pub pendings-of : (l : List Pending) → length l ≤ mostPending → pendingsLaid (pendingsOf l) ≡ true
 unfolding pendingsLaid blankPending every
-pendings-of l h = is-laid blankPending zeroPending refl 32 l h
+pendings-of l h = is-laid blankPending zeroPending refl mostPending l h
 
 module _ (p : Pendings) (laid : PendingLaid p) where
   pub count : length (pendingList p) ≡ p .used
-  count = laid-length 32 zeroPending (p .records) (p .used) (laid .fit) (laid .rest)
+  count = laid-length mostPending zeroPending (p .records) (p .used) (laid .fit) (laid .rest)
 
   -- the struct of a list
-  as-list : (es : List Pending) (u : ℕ) (l : List Pending) → es ≡ pad 32 zeroPending l → u ≡ length l → _≡_ {A = Pendings} (record { records = es; used = u }) (pendingsOf l)
+  as-list : (es : List Pending) (u : ℕ) (l : List Pending) → es ≡ pad mostPending zeroPending l → u ≡ length l → _≡_ {A = Pendings} (record { records = es; used = u }) (pendingsOf l)
   as-list es u l e f = λ i. record { records = e i; used = f i }
 
   pub pendings-same : p ≡ pendingsOf (pendingList p)
@@ -97,7 +98,7 @@ module _ (p : Pendings) (laid : PendingLaid p) where
       let w : lead (otherNumber n) (pendingList p) < length (pendingList p) = omega arith in
       let d = cut-found (λ (q : Pending). eqb (n .0) (q .number .0)) (pendingList p) w in
       rw d (as-list es (p .used - 1) _
-      (f ∙ laid-shrink 32 zeroPending (p .records) (p .used) (laid .fit) (laid .rest) at h ∙ ap (λ (k : ℕ). pad 32 zeroPending (del k (pendingList p))) e)
+      (f ∙ laid-shrink mostPending zeroPending (p .records) (p .used) (laid .fit) (laid .rest) at h ∙ ap (λ (k : ℕ). pad mostPending zeroPending (del k (pendingList p))) e)
       (omega (arith, length-del (lead (otherNumber n) (pendingList p)) (pendingList p) w)))
 
   pub absent : (n : Number) (at : ℕ) → at ≡ lead (otherNumber n) (pendingList p) → p .used ≤ at → p ≡ pendingsOf (without n (pendingList p))
@@ -106,33 +107,33 @@ module _ (p : Pendings) (laid : PendingLaid p) where
       let v = count in
       rw (cut-missing (λ (q : Pending). eqb (n .0) (q .number .0)) (λ q. []) (pendingList p) (omega arith)) pendings-same
 
-  pub appended : (q : Pending) → p .used < 32 → _≡_ {A = Pendings} (record { records = set (p .records) (p .used) q; used = p .used + 1 }) (pendingsOf (pendingList p ++ q ∷ []))
+  pub appended : (q : Pending) → p .used < mostPending → _≡_ {A = Pendings} (record { records = set (p .records) (p .used) q; used = p .used + 1 }) (pendingsOf (pendingList p ++ q ∷ []))
   appended q h =
       let v = count in
-      as-list _ _ (pendingList p ++ q ∷ []) (laid-append 32 zeroPending (p .records) (p .used) (laid .fit) (laid .rest) q h)
+      as-list _ _ (pendingList p ++ q ∷ []) (laid-append mostPending zeroPending (p .records) (p .used) (laid .fit) (laid .rest) q h)
       (omega (arith, length-append (pendingList p) (q ∷ [])))
 
 -- ---- numbers last taken
 abbrev pub TakenLaid : Taken → Type 0
-TakenLaid t = Laid 8 untaken (t .last) (t .used)
+TakenLaid t = Laid mostActors untaken (t .last) (t .used)
 
 blank-number : (n : Number) → blankNumber n ≡ true → n ≡ untaken
 unfolding blankNumber
 blank-number n e = let x = eqb-true (n .0) 0 e in λ i. record { 0 = x i }
 
-pub taken-are : (t : Taken) → length (t .last) ≡ 8 → takenLaid t ≡ true → TakenLaid t
+pub taken-are : (t : Taken) → length (t .last) ≡ mostActors → takenLaid t ≡ true → TakenLaid t
 unfolding takenLaid
-taken-are t n e = laid-is blankNumber untaken blank-number 8 (t .last) (t .used) n e
+taken-are t n e = laid-is blankNumber untaken blank-number mostActors (t .last) (t .used) n e
 
-pub taken-of : (l : List Number) → length l ≤ 8 → takenLaid (takenAs l) ≡ true
+pub taken-of : (l : List Number) → length l ≤ mostActors → takenLaid (takenAs l) ≡ true
 unfolding takenLaid blankNumber
-taken-of l h = is-laid blankNumber untaken refl 8 l h
+taken-of l h = is-laid blankNumber untaken refl mostActors l h
 
 module _ (t : Taken) (laid : TakenLaid t) where
   held : length (takenList t) ≡ t .used
-  held = laid-length 8 untaken (t .last) (t .used) (laid .fit) (laid .rest)
+  held = laid-length mostActors untaken (t .last) (t .used) (laid .fit) (laid .rest)
 
-  as-taken : (es : List Number) (u : ℕ) (l : List Number) → es ≡ pad 8 untaken l → u ≡ length l → _≡_ {A = Taken} (record { last = es; used = u }) (takenAs l)
+  as-taken : (es : List Number) (u : ℕ) (l : List Number) → es ≡ pad mostActors untaken l → u ≡ length l → _≡_ {A = Taken} (record { last = es; used = u }) (takenAs l)
   as-taken es u l e f = λ i. record { last = e i; used = f i }
 
   pub taken-same : t ≡ takenAs (takenList t)
@@ -140,16 +141,16 @@ module _ (t : Taken) (laid : TakenLaid t) where
 
   pub looked : (s : Id) → getD (t .last) (s .0) untaken ≡ lastOf s (takenList t)
   unfolding lastOf
-  looked s = laid-get 8 untaken (t .last) (t .used) (laid .fit) (laid .rest) (s .0)
+  looked s = laid-get mostActors untaken (t .last) (t .used) (laid .fit) (laid .rest) (s .0)
 
-  pub never : (s : Id) → 8 ≤ s .0 → untaken ≡ lastOf s (takenList t)
+  pub never : (s : Id) → mostActors ≤ s .0 → untaken ≡ lastOf s (takenList t)
   unfolding lastOf
   never s h = let v = held in let f = laid .fit in sym (List·getD-eq-default (takenList t) untaken {n = s .0} (omega arith))
 
-  pub noted : (s : Id) (n : Number) (u : ℕ) → s .0 < 8 → u ≡ length (noteTaken s n (takenList t))
+  pub noted : (s : Id) (n : Number) (u : ℕ) → s .0 < mostActors → u ≡ length (noteTaken s n (takenList t))
       → _≡_ {A = Taken} (record { last = set (t .last) (s .0) n; used = u }) (takenAs (noteTaken s n (takenList t)))
   unfolding noteTaken
-  noted s n u h e = as-taken _ u _ (laid-write 8 untaken (t .last) (t .used) (laid .fit) (laid .rest) (s .0) n h) e
+  noted s n u h e = as-taken _ u _ (laid-write mostActors untaken (t .last) (t .used) (laid .fit) (laid .rest) (s .0) n h) e
 
   pub longer : (s : Id) (n : Number) → t .used ≤ s .0 → s .0 + 1 ≡ length (noteTaken s n (takenList t))
   unfolding noteTaken
@@ -168,17 +169,17 @@ pub durable-parts : (d : Durable) → durableLaid d ≡ true → (pendingsLaid (
 unfolding durableLaid
 durable-parts d e = let a = every-cons _ _ e in (a .0, every-cons _ _ (a .1) .0)
 
-pub durable-is : (d : Durable) → length (d .pending .records) ≡ 32 → length (d .taken .last) ≡ 8 → durableLaid d ≡ true → DurableLaid d
+pub durable-is : (d : Durable) → length (d .pending .records) ≡ mostPending → length (d .taken .last) ≡ mostActors → durableLaid d ≡ true → DurableLaid d
 durable-is d n m e = let a = durable-parts d e in record { pendings = pendings-are (d .pending) n (a .0); numbers = taken-are (d .taken) m (a .1) }
 
 -- A durable part that fits is laid out, and seen as it was.
-pub durable-fits : (d : rules.Durable) → length (d .pending) ≤ 32 → length (d .taken) ≤ 8 → durableLaid (durableAs d) ≡ true
+pub durable-fits : (d : rules.Durable) → length (d .pending) ≤ mostPending → length (d .taken) ≤ mostActors → durableLaid (durableAs d) ≡ true
 unfolding durableLaid every
 durable-fits d h k = rw (pendings-of (d .pending) h, taken-of (d .taken) k)
 
 pub durable-back : (d : rules.Durable) → durableView (durableAs d) ≡ d
 durable-back d =
-    let p = pad-view 32 zeroPending (d .pending) in let t = pad-view 8 untaken (d .taken) in
+    let p = pad-view mostPending zeroPending (d .pending) in let t = pad-view mostActors untaken (d .taken) in
     λ i. record { next = d .next; pending = p i; taken = t i; inner = d .inner }
 
 pub same-parts : (n m : Number) (p q : Pendings) (t u : Taken) (s : Storage) → n ≡ m → p ≡ q → t ≡ u
@@ -195,5 +196,6 @@ pub formed : (d : Durable) (k : ℕ) → DurableLaid d → durableOk (base .limi
 unfolding durableOk every
 formed d k l =
     let n = count (d .pending) (l .pendings) in let f = l .pendings .fit in
-    let e : leb (length (pendingList (d .pending))) 32 ≡ true = le-leb (length (pendingList (d .pending))) 32 (omega arith) in
+    let m = length (pendingList (d .pending)) in
+    let e : leb m (base .limits .pending) ≡ true = le-leb m (base .limits .pending) (omega arith) in
     rw (e, held (d .taken) (l .numbers))

@@ -9,6 +9,7 @@ use mathlib.Core.List.{[], _∷_}
 use lib.Dec.{lit≤}
 use Rattle.lists.specs.Lists.{choose, every}
 use Rattle.lists.proofs.Members.{every-cons, every-make, every-nil}
+use Rattle.types.specs.Capacities.{mostActors}
 use Rattle.rules.specs.Outcome.{base}
 use Rattle.rules.specs.Link as rules
 use Rattle.rules.specs.WellFormed.{durableOk, storedOk}
@@ -43,8 +44,8 @@ pub stored-formed : (k : ℕ) (s : Stored) → storedFine k s ≡ true → store
 unfolding storedFine
 stored-formed k s e = every-cons _ _ (every-cons _ _ e .1) .0
 
--- A durable part that is well formed among at most 8 actors passes, and so does what stores it.
-pub durable-kept : (k : ℕ) (d : rules.Durable) → k ≤ 8 → durableOk (base .limits) k d ≡ true → durableFine k (durableAs d) ≡ true
+-- A durable part that is well formed among at most so many actors passes, and so does what stores it.
+pub durable-kept : (k : ℕ) (d : rules.Durable) → k ≤ mostActors → durableOk (base .limits) k d ≡ true → durableFine k (durableAs d) ≡ true
 unfolding durableFine
 durable-kept k d h e =
     let f = formed.durable-is (base .limits) k d e in
@@ -55,7 +56,7 @@ some-ok : (k : ℕ) (d : rules.Durable) → storedOk (base .limits) k (some d) �
 unfolding storedOk
 some-ok k d e = e
 
-pub stored-kept : (k : ℕ) (st : Option rules.Durable) → k ≤ 8 → storedOk (base .limits) k st ≡ true → storedFine k (storedAs st) ≡ true
+pub stored-kept : (k : ℕ) (st : Option rules.Durable) → k ≤ mostActors → storedOk (base .limits) k st ≡ true → storedFine k (storedAs st) ≡ true
 unfolding unsaved blankDurable every
 stored-kept k none h e =
     let l = durable-fits zeroDurable (lit≤ tt) (lit≤ tt) in

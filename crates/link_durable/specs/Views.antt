@@ -7,6 +7,7 @@ use mathlib.Core.List.{List, [], _∷_}
 use lib.ListN.{length, take, drop}
 use lib.Dec.{leb, eqb}
 use Rattle.lists.specs.Lists.{choose, all, every, pad}
+use Rattle.types.specs.Capacities.{mostPending, mostActors}
 use Rattle.types.specs.declared.Number.{Number}
 use Rattle.types.specs.declared.Pending.{Pending}
 use Rattle.types.specs.declared.Storage.{Storage}
@@ -27,7 +28,7 @@ abbrev pub pendingList : Pendings → List Pending
 pendingList p = take (p .used) (p .records)
 
 abbrev pub pendingsOf : List Pending → Pendings
-pendingsOf l = record { records = pad 32 zeroPending l; used = length l }
+pendingsOf l = record { records = pad mostPending zeroPending l; used = length l }
 
 abbrev pub otherNumber : Number → Pending → Bool
 otherNumber n q = not (eqb (n .0) (q .number .0))
@@ -37,7 +38,7 @@ abbrev pub takenList : Taken → List Number
 takenList t = take (t .used) (t .last)
 
 abbrev pub takenAs : List Number → Taken
-takenAs l = record { last = pad 8 rules.untaken l; used = length l }
+takenAs l = record { last = pad mostActors rules.untaken l; used = length l }
 
 -- ---- the durable part, and what is stored: all zero where nothing is
 abbrev pub durableView : Durable → rules.Durable
@@ -64,10 +65,10 @@ unfoldable pub blankNumber : Number → Bool
 blankNumber n = eqb (n .0) 0
 
 unfoldable pub pendingsLaid : Pendings → Bool
-pendingsLaid p = every (leb (p .used) 32 ∷ all blankPending (drop (p .used) (p .records)) ∷ [])
+pendingsLaid p = every (leb (p .used) mostPending ∷ all blankPending (drop (p .used) (p .records)) ∷ [])
 
 unfoldable pub takenLaid : Taken → Bool
-takenLaid t = every (leb (t .used) 8 ∷ all blankNumber (drop (t .used) (t .last)) ∷ [])
+takenLaid t = every (leb (t .used) mostActors ∷ all blankNumber (drop (t .used) (t .last)) ∷ [])
 
 unfoldable pub durableLaid : Durable → Bool
 durableLaid d = every (pendingsLaid (d .pending) ∷ takenLaid (d .taken) ∷ [])

@@ -1,5 +1,7 @@
 // The link's durable part: ordered arrays in structs with a count, what is done to them, and the tests of any content.
 use types::Id;
+use types::MOST_ACTORS;
+use types::MOST_PENDING;
 use types::Number;
 use types::Payload;
 use types::Pending;
@@ -11,6 +13,7 @@ ghost use Prim.Native.Nat.{_≤_, _<_};
 ghost use lib.ListN.{take, drop};
 ghost use lib.Dec.{leb, eqb};
 ghost use Rattle.lists.specs.Lists.{all, chain, endsIn, lead, shrink};
+ghost use Rattle.types.specs.Capacities.{mostPending, mostActors};
 ghost use Rattle.rules.specs.Outcome.{base};
 ghost use Rattle.rules.specs.Link.{fresh, durableOf, lastOf, lastTaken, noteTaken, withTaken, without, acked, posting, withInner};
 ghost use Rattle.rules.specs.WellFormed.{pendingOk, byNumber, durableOk};
@@ -18,13 +21,13 @@ ghost use Rattle.link_durable.specs.Views.{zeroPending, pendingList, pen
 
 // Messages sent and not acked, ascending by number. Places from the used count on are zero.
 pub struct Pendings {
-    pub records: [Pending; 32],
+    pub records: [Pending; MOST_PENDING],
     pub used: usize,
 }
 
 // At place s the number last taken from source s. Places from the used count on are zero.
 pub struct Taken {
-    pub last: [Number; 8],
+    pub last: [Number; MOST_ACTORS],
     pub used: usize,
 }
 
@@ -59,8 +62,8 @@ fn has_number(q: Pending, n: Number) -> bool
 }
 
 // How many leading records have another number: the place of the one that has it, or the count.
-fn pending_place(records: [Pending; 32], used: usize, n: Number) -> usize
-    requires { ⌜ used ≤ 32 ⌝ }
+fn pending_place(records: [Pending; MOST_PENDING], used: usize, n: Number) -> usize
+    requires { ⌜ used ≤ mostPending ⌝ }
     ensures { λ r. ⌜ r ≡ lead (otherNumber n) (take used records) ⌝ }
 {
     let mut i = 0;
@@ -75,8 +78,8 @@ fn pending_place(records: [Pending; 32], used: usize, n: Number) -> usize
 }
 
 // The array without what stands at the place. What stood after it goes one place down, and the place that is freed is zero.
-fn remove_at(records: [Pending; 32], used: usize, at: usize) -> [Pending; 32]
-    requires { ⌜ (at < used) × (used ≤ 32) ⌝ }
+fn remove_at(records: [Pending; MOST_PENDING], used: usize, at: usize) -> [Pending; MOST_PENDING]
+    requires { ⌜ (at < used) × (used ≤ mostPending) ⌝ }
     ensures { λ r. ⌜ r ≡ shrink used at zeroPending records ⌝ }
 {
     let mut es = records;
@@ -109,7 +112,7 @@ fn remove_pending(p: Pendings, n: Number) -> Pendings
 
 // A message becomes pending.
 fn append_pending(p: Pendings, q: Pending) -> Pendings
-    requires { ⌜ (pendingsLaid p ≡ true) × (p .used < 32) ⌝ }
+    requires { ⌜ (pendingsLaid p ≡ true) × (p .used < mostPending) ⌝ }
     ensures { λ r. ⌜ r ≡ pendingsOf (pendingList p ++ q ∷ []) ⌝ }
 {
     let used = p.used;
@@ -128,7 +131,7 @@ fn last_of(t: Taken, s: Id) -> Number
     ensures { λ r. ⌜ r ≡ lastOf s (takenList t) ⌝ }
 {
     let i = s.0 as usize;
-    if i < 8 {
+    if i < MOST_ACTORS {
         return t.last[i];
     }
     Number(0)
@@ -136,7 +139,7 @@ fn last_of(t: Taken, s: Id) -> Number
 
 // A number is taken from a source.
 fn note_taken(t: Taken, s: Id, n: Number) -> Taken
-    requires { ⌜ (takenLaid t ≡ true) × (s .0 < 8) ⌝ }
+    requires { ⌜ (takenLaid t ≡ true) × (s .0 < mostActors) ⌝ }
     ensures { λ r. ⌜ r ≡ takenAs (noteTaken s n (takenList t)) ⌝ }
 {
     let i = s.0 as usize;
@@ -164,11 +167,11 @@ pub fn fresh_durable() -> Durable
     Durable {
         next: Number(1),
         pending: Pendings {
-            records: [z; 32],
+            records: [z; MOST_PENDING],
             used: 0,
         },
         taken: Taken {
-            last: [Number(0); 8],
+            last: [Number(0); MOST_ACTORS],
             used: 0,
         },
         inner: Storage::Nothing,
@@ -196,7 +199,7 @@ pub fn last_taken(d: Durable, s: Id) -> Number
 
 // Number n is taken from source s.
 pub fn take_number(d: Durable, s: Id, n: Number) -> Durable
-    requires { ⌜ (durableLaid d ≡ true) × (s .0 < 8) ⌝ }
+    requires { ⌜ (durableLaid d ≡ true) × (s .0 < mostActors) ⌝ }
     ensures { λ r. ⌜ r ≡ durableAs (withTaken s n (durableView d)) ⌝ }
 {
     let t = d.taken;
@@ -232,7 +235,7 @@ pub fn drop_acked(d: Durable, n: Number) -> Durable
 
 // A message to r takes the next number and becomes pending.
 pub fn post(d: Durable, r: Id, p: Payload) -> Durable
-    requires { ⌜ (durableLaid d ≡ true) × (d .pending .used < 32) × (d .next .0 < 18446744073709551615) ⌝ }
+    requires { ⌜ (durableLaid d ≡ true) × (d .pending .used < base .limits .pending) × (d .next .0 < base .limits .numbers) ⌝ }
     ensures { λ x. ⌜ x ≡ durableAs (posting r p (durableView d)) ⌝ }
 {
     let next = d.next;
@@ -284,12 +287,12 @@ fn blank_pending(q: Pending) -> bool
 
 // Places from the used count on are zero.
 fn pendings_rest(p: Pendings) -> bool
-    requires { ⌜ p .used ≤ 32 ⌝ }
+    requires { ⌜ p .used ≤ mostPending ⌝ }
     ensures { λ x. ⌜ x ≡ all blankPending (drop (p .used) (p .records)) ⌝ }
 {
     let records = p.records;
     let mut i = p.used;
-    while i < 32 {
+    while i < MOST_PENDING {
         let here = records[i];
         if !blank_pending(here) {
             return false;
@@ -302,19 +305,19 @@ fn pendings_rest(p: Pendings) -> bool
 fn pendings_laid(p: Pendings) -> bool
     ensures { λ x. ⌜ x ≡ pendingsLaid p ⌝ }
 {
-    if 32 < p.used {
+    if MOST_PENDING < p.used {
         return false;
     }
     pendings_rest(p)
 }
 
 fn taken_rest(t: Taken) -> bool
-    requires { ⌜ t .used ≤ 8 ⌝ }
+    requires { ⌜ t .used ≤ mostActors ⌝ }
     ensures { λ x. ⌜ x ≡ all blankNumber (drop (t .used) (t .last)) ⌝ }
 {
     let last = t.last;
     let mut i = t.used;
-    while i < 8 {
+    while i < MOST_ACTORS {
         let here = last[i];
         if here.0 != 0 {
             return false;
@@ -327,7 +330,7 @@ fn taken_rest(t: Taken) -> bool
 fn taken_laid(t: Taken) -> bool
     ensures { λ x. ⌜ x ≡ takenLaid t ⌝ }
 {
-    if 8 < t.used {
+    if MOST_ACTORS < t.used {
         return false;
     }
     taken_rest(t)
@@ -355,7 +358,7 @@ fn pending_ok(next: u64, q: Pending) -> bool
 }
 
 fn pendings_ok(p: Pendings, next: u64) -> bool
-    requires { ⌜ p .used ≤ 32 ⌝ }
+    requires { ⌜ p .used ≤ mostPending ⌝ }
     ensures { λ x. ⌜ x ≡ all (pendingOk next) (pendingList p) ⌝ }
 {
     let used = p.used;
@@ -373,7 +376,7 @@ fn pendings_ok(p: Pendings, next: u64) -> bool
 
 // Each number is below the next one.
 fn ascending(p: Pendings) -> bool
-    requires { ⌜ p .used ≤ 32 ⌝ }
+    requires { ⌜ p .used ≤ mostPending ⌝ }
     ensures { λ x. ⌜ x ≡ chain byNumber (pendingList p) ⌝ }
 {
     let used = p.used;
@@ -392,7 +395,7 @@ fn ascending(p: Pendings) -> bool
 
 // The last of the numbers last taken is 1 or more.
 fn ends_in_one(t: Taken) -> bool
-    requires { ⌜ t .used ≤ 8 ⌝ }
+    requires { ⌜ t .used ≤ mostActors ⌝ }
     ensures { λ x. ⌜ x ≡ endsIn (λ n. leb 1 (n .0)) (takenList t) ⌝ }
 {
     let used = t.used;

@@ -6,6 +6,7 @@ use Rattle.lists.specs.Lists.{every}
 use borrow.Author.Needs.{needs}
 use lib.ListN.{length}
 use Rattle.lists.proofs.Places.{length-mapped}
+use Rattle.types.specs.Capacities.{mostPending, mostActors}
 use Rattle.link_durable.proofs.Containers.{durable-is, formed}
 use Rattle.link_durable.proofs.durable_formed.Statement.{statement}
 use Rattle.link_durable.proofs.durable_formed.Tie as tie
@@ -14,16 +15,16 @@ returns : tie.Need-returns
 unfolding every
 returns c =
     let a = c .before .before .before .before .before in
-    let n : length (a .args .d .pending .records) ≡ 32 = search (needs, length-mapped) in
-    let m : length (a .args .d .taken .last) ≡ 8 = search (needs, length-mapped) in
+    let n : length (a .args .d .pending .records) ≡ mostPending = search (needs, length-mapped) in
+    let m : length (a .args .d .taken .last) ≡ mostActors = search (needs, length-mapped) in
     let l = durable-is (a .args .d) n m (a .pre) in
     rw (formed _ _ l) (simp (lt-leb 1 (a .args .d .next .0) (omega arith)))
 
 pendings-ok-requires : tie.Need-pendings-ok-requires
 pendings-ok-requires c κs =
     let a = c .before .before .before .before .before in
-    let n : length (a .args .d .pending .records) ≡ 32 = search (needs, length-mapped) in
-    let m : length (a .args .d .taken .last) ≡ 8 = search (needs, length-mapped) in
+    let n : length (a .args .d .pending .records) ≡ mostPending = search (needs, length-mapped) in
+    let m : length (a .args .d .taken .last) ≡ mostActors = search (needs, length-mapped) in
     let l = durable-is (a .args .d) n m (a .pre) in
     l .pendings .fit
 
@@ -31,8 +32,8 @@ returns-2 : tie.Need-returns-2
 unfolding every
 returns-2 c =
     let a = c .before .before .before .before .before .before .before in
-    let n : length (a .args .d .pending .records) ≡ 32 = search (needs, length-mapped) in
-    let m : length (a .args .d .taken .last) ≡ 8 = search (needs, length-mapped) in
+    let n : length (a .args .d .pending .records) ≡ mostPending = search (needs, length-mapped) in
+    let m : length (a .args .d .taken .last) ≡ mostActors = search (needs, length-mapped) in
     let l = durable-is (a .args .d) n m (a .pre) in
     let e = sym (c .before .pendings-ok .ensures) ∙ not-true (c .before .pendings-ok .result) (c .if2 .taken) in
     rw (formed _ _ l) (simp (le-leb 1 (a .args .d .next .0) (omega arith), e))
@@ -40,8 +41,8 @@ returns-2 c =
 ascending-requires : tie.Need-ascending-requires
 ascending-requires c κs =
     let a = c .before .before .before .before .before .before .before in
-    let n : length (a .args .d .pending .records) ≡ 32 = search (needs, length-mapped) in
-    let m : length (a .args .d .taken .last) ≡ 8 = search (needs, length-mapped) in
+    let n : length (a .args .d .pending .records) ≡ mostPending = search (needs, length-mapped) in
+    let m : length (a .args .d .taken .last) ≡ mostActors = search (needs, length-mapped) in
     let l = durable-is (a .args .d) n m (a .pre) in
     l .pendings .fit
 
@@ -49,8 +50,8 @@ returns-3 : tie.Need-returns-3
 unfolding every
 returns-3 c =
     let a = c .before .before .before .before .before .before .before .before .before in
-    let n : length (a .args .d .pending .records) ≡ 32 = search (needs, length-mapped) in
-    let m : length (a .args .d .taken .last) ≡ 8 = search (needs, length-mapped) in
+    let n : length (a .args .d .pending .records) ≡ mostPending = search (needs, length-mapped) in
+    let m : length (a .args .d .taken .last) ≡ mostActors = search (needs, length-mapped) in
     let l = durable-is (a .args .d) n m (a .pre) in
     let e = sym (c .before .before .before .pendings-ok .ensures) ∙ not-false (c .before .before .before .pendings-ok .result) (c .before .before .if2 .left) in
     let f = sym (c .before .ascending .ensures) ∙ not-true (c .before .ascending .result) (c .if3 .taken) in
@@ -60,8 +61,8 @@ returns-4 : tie.Need-returns-4
 unfolding every
 returns-4 c =
     let a = c .before .before .before .before .before .before .before .before .before .before .before in
-    let n : length (a .args .d .pending .records) ≡ 32 = search (needs, length-mapped) in
-    let m : length (a .args .d .taken .last) ≡ 8 = search (needs, length-mapped) in
+    let n : length (a .args .d .pending .records) ≡ mostPending = search (needs, length-mapped) in
+    let m : length (a .args .d .taken .last) ≡ mostActors = search (needs, length-mapped) in
     let l = durable-is (a .args .d) n m (a .pre) in
     let e = sym (c .before .before .before .before .before .pendings-ok .ensures) ∙ not-false (c .before .before .before .before .before .pendings-ok .result) (c .before .before .before .before .if2 .left) in
     let f = sym (c .before .before .before .ascending .ensures) ∙ not-false (c .before .before .before .ascending .result) (c .before .before .if3 .left) in
@@ -70,8 +71,8 @@ returns-4 c =
 ends-in-one-requires : tie.Need-ends-in-one-requires
 ends-in-one-requires c κs =
     let a = c .before .before .before .before .before .before .before .before .before .before .before in
-    let n : length (a .args .d .pending .records) ≡ 32 = search (needs, length-mapped) in
-    let m : length (a .args .d .taken .last) ≡ 8 = search (needs, length-mapped) in
+    let n : length (a .args .d .pending .records) ≡ mostPending = search (needs, length-mapped) in
+    let m : length (a .args .d .taken .last) ≡ mostActors = search (needs, length-mapped) in
     let l = durable-is (a .args .d) n m (a .pre) in
     l .numbers .fit
 
@@ -79,8 +80,8 @@ returns-5 : tie.Need-returns-5
 unfolding every
 returns-5 c =
     let a = c .before .before .before .before .before .before .before .before .before .before .before .before in
-    let n : length (a .args .d .pending .records) ≡ 32 = search (needs, length-mapped) in
-    let m : length (a .args .d .taken .last) ≡ 8 = search (needs, length-mapped) in
+    let n : length (a .args .d .pending .records) ≡ mostPending = search (needs, length-mapped) in
+    let m : length (a .args .d .taken .last) ≡ mostActors = search (needs, length-mapped) in
     let l = durable-is (a .args .d) n m (a .pre) in
     let e = sym (c .before .before .before .before .before .before .pendings-ok .ensures) ∙ not-false (c .before .before .before .before .before .before .pendings-ok .result) (c .before .before .before .before .before .if2 .left) in
     let f = sym (c .before .before .before .before .ascending .ensures) ∙ not-false (c .before .before .before .before .ascending .result) (c .before .before .before .if3 .left) in

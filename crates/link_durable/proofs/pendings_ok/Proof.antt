@@ -7,6 +7,7 @@ use borrow.Author.Tests.{not-true, not-false}
 use Rattle.lists.specs.Lists.{all}
 use Rattle.lists.proofs.Places.{length-mapped}
 use Rattle.lists.proofs.Walks.{walk-on, walk-fails, walk-ends}
+use Rattle.types.specs.Capacities.{mostPending}
 use Rattle.rules.specs.WellFormed.{pendingOk}
 use Rattle.link_durable.specs.Views.{zeroPending}
 use Rattle.link_durable.proofs.pendings_ok.Statement.{statement}
@@ -33,7 +34,7 @@ pending-ok-requires c κs = search needs
 returns : tie.Need-returns Inv-loop μ-loop
 returns c =
     let a = c .before .before .before .before .before .before .args in let l = c .before .before .before .before .loop in
-    let n : length (a .p .records) ≡ 32 = search (needs, length-mapped) in
+    let n : length (a .p .records) ≡ mostPending = search (needs, length-mapped) in
     walk-fails (pendingOk (a .next)) (a .p .records) (a .p .used) zeroPending (omega arith) (l .i) _ (search needs) (sym (c .before .pending-ok .ensures) ∙ not-true (c .before .pending-ok .result) (c .if1 .taken)) (l .inv .1)
 
 add-i : tie.Need-add-i Inv-loop μ-loop
@@ -45,13 +46,13 @@ loop-less c = search needs
 loop-again : tie.Need-loop-again Inv-loop μ-loop
 loop-again c =
     let a = c .before .before .before .before .before .before .args in let l = c .before .before .before .before .loop in
-    let n : length (a .p .records) ≡ 32 = search (needs, length-mapped) in
+    let n : length (a .p .records) ≡ mostPending = search (needs, length-mapped) in
     (search needs, walk-on (pendingOk (a .next)) (a .p .records) (a .p .used) zeroPending (omega arith) (l .i) _ (search needs) (sym (c .before .pending-ok .ensures) ∙ not-false (c .before .pending-ok .result) (c .if1 .left)) (l .inv .1))
 
 returns-2 : tie.Need-returns-2 Inv-loop μ-loop
 returns-2 c =
     let a = c .before .before .before .args in let l = c .before .loop in
-    let n : length (a .p .records) ≡ 32 = search (needs, length-mapped) in
+    let n : length (a .p .records) ≡ mostPending = search (needs, length-mapped) in
     walk-ends (pendingOk (a .next)) (a .p .records) (a .p .used) zeroPending (omega arith) (l .i) _ (search needs) (l .inv .1)
 
 pub pendings-ok-spec : {M : Type 1} → statement M
