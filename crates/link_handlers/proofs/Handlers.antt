@@ -14,6 +14,7 @@ use borrow.Author.Tests.{leb-true, eq-eqb, ne-eqb}
 use Rattle.lists.specs.Lists.{choose, all}
 use Rattle.lists.proofs.Members.{every-cons}
 use Rattle.lists.proofs.Places.{write-length}
+use Rattle.types.specs.Capacities.{mostTold, mostPending, mostActors, mostCommands, network}
 use Rattle.answers.specs.declared.Answer.{Answer}
 use Rattle.types.specs.declared.Id.{Id}
 use Rattle.types.specs.declared.Number.{Number}
@@ -55,7 +56,7 @@ pub link-is : (d e : Durable) (s t : ℕ) → d ≡ e → s ≡ t → _≡_ {A =
 link-is d e s t p q = λ i. record { durable = p i; state = q i }
 
 -- ---- the first commands
-pub none-ready : (cs : Commands) → cs ≡ commandsOf [] → (cs ≡ commandsOf (commandsIn cs)) × (cs .used < 33)
+pub none-ready : (cs : Commands) → cs ≡ commandsOf [] → (cs ≡ commandsOf (commandsIn cs)) × (cs .used < mostTold)
 none-ready cs e = (commands-same cs [] e, rw e (lit< tt))
 
 pub none-few : (cs : Commands) → cs ≡ commandsOf [] → (cs ≡ commandsOf (commandsIn cs)) × (cs .used ≤ 1)
@@ -82,9 +83,9 @@ pub after : (first cs : List LinkCommand) (c : Commands) (os : List rules.Comman
 after first cs c os e f = e ∙ ap (λ (x : List LinkCommand). commandsOf (x ++ map commandAs os)) f
 
 -- ---- the durable part of which a number was taken
-pub taken-whole : (d t : Durable) (s : Id) (n : Number) → Whole d → s .0 < 8 → t ≡ durableAs (rules.withTaken s n (durableView d)) → Whole t
+pub taken-whole : (d t : Durable) (s : Id) (n : Number) → Whole d → s .0 < mostActors → t ≡ durableAs (rules.withTaken s n (durableView d)) → Whole t
 unfolding rules.withTaken rules.noteTaken
-taken-whole d t s n w h e = whole-is t (rules.withTaken s n (durableView d)) e (whole-pend d w) (write-length rules.untaken (s .0) n _ 8 h (whole-took d w))
+taken-whole d t s n w h e = whole-is t (rules.withTaken s n (durableView d)) e (whole-pend d w) (write-length rules.untaken (s .0) n _ mostActors h (whole-took d w))
 
 -- ---- pending messages sent again
 abbrev pub again : Pending → rules.Command
@@ -102,7 +103,7 @@ resent-length (q ∷ l) = ap suc (resent-length l)
 
 -- what stands in the list after i of them
 abbrev pub resentTo : ℕ → List Pending → List LinkCommand
-resentTo i rs = Set 31 ∷ map commandAs (rules.resent (take i rs))
+resentTo i rs = Set network ∷ map commandAs (rules.resent (take i rs))
 
 pub resent-used : (cs : Commands) (rs : List Pending) (i : ℕ) → i ≤ length rs → cs ≡ commandsOf (resentTo i rs) → cs .used ≡ suc i
 resent-used cs rs i h e =
@@ -116,9 +117,9 @@ unfolding commandAs
 resent-next rs i d cs z h e f =
     let q = getD rs i d in
     let a : resentTo i rs ++ Send (q .dst) (Deliver (q .number) (q .payload)) ∷ [] ≡ resentTo (i + 1) rs =
-    ap (λ (x : List LinkCommand). Set 31 ∷ x) (sym (map-append commandAs (rules.resent (take i rs)) (again q ∷ [])))
-    ∙ ap (λ (x : List rules.Command). Set 31 ∷ map commandAs x) (sym (resent-snoc (take i rs) q))
-    ∙ ap (λ (x : List Pending). Set 31 ∷ map commandAs (rules.resent x)) (sym (take-suc rs i d h))
+    ap (λ (x : List LinkCommand). Set network ∷ x) (sym (map-append commandAs (rules.resent (take i rs)) (again q ∷ [])))
+    ∙ ap (λ (x : List rules.Command). Set network ∷ map commandAs x) (sym (resent-snoc (take i rs) q))
+    ∙ ap (λ (x : List Pending). Set network ∷ map commandAs (rules.resent x)) (sym (take-suc rs i d h))
     ∙ ap (λ (k : ℕ). resentTo k rs) (sym (add-one i)) in
     then-one cs (resentTo i rs) _ z e f ∙ ap commandsOf a
 
@@ -142,19 +143,19 @@ module _ (c : Limits) (i : Id) (l : rules.Link) where
   unfolding rules.handing choose
   handing-takes s n p r e = rw e
 
-  pub timeout-network : (rs : List Rule) (t : ℕ) → t ≡ 31 → rules.resending l ≡ rules.onTimeout c i rs l t
+  pub timeout-network : (rs : List Rule) (t : ℕ) → t ≡ network → rules.resending l ≡ rules.onTimeout c i rs l t
   unfolding rules.onTimeout choose
-  timeout-network rs t e = rw (eq-eqb t 31 e)
+  timeout-network rs t e = rw (eq-eqb t network e)
 
-  timeout-user : (rs : List Rule) (t : ℕ) → (t ≡ 31 → ⊥) → rules.timing c i l (reply rs 3 (l .state) nobody t) ≡ rules.onTimeout c i rs l t
+  timeout-user : (rs : List Rule) (t : ℕ) → (t ≡ network → ⊥) → rules.timing c i l (reply rs 3 (l .state) nobody t) ≡ rules.onTimeout c i rs l t
   unfolding rules.onTimeout choose
-  timeout-user rs t e = rw (ne-eqb t 31 e)
+  timeout-user rs t e = rw (ne-eqb t network e)
 
-  pub timeout-idle : (rs : List Rule) (t : ℕ) → (t ≡ 31 → ⊥) → ignored (reply rs 3 (l .state) nobody t) ≡ true → rules.idling l ≡ rules.onTimeout c i rs l t
+  pub timeout-idle : (rs : List Rule) (t : ℕ) → (t ≡ network → ⊥) → ignored (reply rs 3 (l .state) nobody t) ≡ true → rules.idling l ≡ rules.onTimeout c i rs l t
   unfolding rules.timing choose
   timeout-idle rs t e f = sym (ap (λ (b : Bool). choose b (rules.idling l) (bind (rules.output c i (l .durable) (reply rs 3 (l .state) nobody t .out)) (rules.timedBy l))) f) ∙ timeout-user rs t e
 
-  pub timeout-goes : (rs : List Rule) (t : ℕ) (r : Reply) → (t ≡ 31 → ⊥) → r ≡ reply rs 3 (l .state) nobody t → ignored r ≡ false
+  pub timeout-goes : (rs : List Rule) (t : ℕ) (r : Reply) → (t ≡ network → ⊥) → r ≡ reply rs 3 (l .state) nobody t → ignored r ≡ false
       → bind (rules.output c i (l .durable) (r .out)) (rules.timedBy l) ≡ rules.onTimeout c i rs l t
   unfolding rules.timing choose
   timeout-goes rs t r e f g =
@@ -166,28 +167,28 @@ module _ (t : Table) (ok : tableOk t ≡ true) where
   rules-ok : all ruleOk (rulesOf t) ≡ true
   rules-ok = sound-rules (rulesOf t) (table-is t ok .good)
 
-  few-is : (x : Reaction) (y : Reply) → x ≡ reactionOf y → length (y .out) ≤ 4 → x .used ≤ 4
+  few-is : (x : Reaction) (y : Reply) → x ≡ reactionOf y → length (y .out) ≤ mostCommands → x .used ≤ mostCommands
   few-is x y e h = let u : x .used ≡ length (y .out) = ap (λ (z : Reaction). z .used) e in omega arith
 
-  pub react-few : (x : Reaction) (ev st : ℕ) (s : Id) (v : ℕ) → x ≡ reactionOf (reply (rulesOf t) ev st s v) → x .used ≤ 4
+  pub react-few : (x : Reaction) (ev st : ℕ) (s : Id) (v : ℕ) → x ≡ reactionOf (reply (rulesOf t) ev st s v) → x .used ≤ mostCommands
   react-few x ev st s v e = few-is x (reply (rulesOf t) ev st s v) e (reply-few (rulesOf t) ev st s v rules-ok)
 
   pub react-back : (x : Reaction) (ev st : ℕ) (s : Id) (v : ℕ) → x ≡ reactionOf (reply (rulesOf t) ev st s v) → replyOf x ≡ reply (rulesOf t) ev st s v
   react-back x ev st s v e = ap replyOf e ∙ reply-back _ (reply-few (rulesOf t) ev st s v rules-ok)
 
-  pub start-used : (x : Reaction) (v : Storage) → x ≡ reactionOf (atStart (rulesOf t) v) → x .used ≤ 4
+  pub start-used : (x : Reaction) (v : Storage) → x ≡ reactionOf (atStart (rulesOf t) v) → x .used ≤ mostCommands
   start-used x v e = few-is x (atStart (rulesOf t) v) e (start-few (rulesOf t) v rules-ok)
 
   pub start-back : (x : Reaction) (v : Storage) → x ≡ reactionOf (atStart (rulesOf t) v) → replyOf x ≡ atStart (rulesOf t) v
   start-back x v e = ap replyOf e ∙ reply-back _ (start-few (rulesOf t) v rules-ok)
 
 -- ---- a start, from what is stored
-some-small : (d : Durable) → durableLaid d ≡ true → (length (pendingList (d .pending)) ≤ 32) × (length (takenList (d .taken)) ≤ 8)
+some-small : (d : Durable) → durableLaid d ≡ true → (length (pendingList (d .pending)) ≤ mostPending) × (length (takenList (d .taken)) ≤ mostActors)
 unfolding pendingsLaid takenLaid
 some-small d e =
     let h = durable-parts d e in
-    let a = leb-true (d .pending .used) 32 (every-cons _ _ (h .0) .0) in
-    let b = leb-true (d .taken .used) 8 (every-cons _ _ (h .1) .0) in
+    let a = leb-true (d .pending .used) mostPending (every-cons _ _ (h .0) .0) in
+    let b = leb-true (d .taken .used) mostActors (every-cons _ _ (h .1) .0) in
     (omega (arith, length-take (d .pending .used) (d .pending .records)), omega (arith, length-take (d .taken .used) (d .taken .last)))
 
 pub stored-whole : (s : Stored) (d : Durable) → storedLaid s ≡ true → d ≡ durableAs (rules.durableOf (storedView s)) → Whole d

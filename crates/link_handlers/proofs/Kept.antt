@@ -5,6 +5,7 @@ use mathlib.Core.Path.{_≡_, refl}
 use mathlib.Core.Bool.{true}
 use lib.Dec.{lit≤}
 use Rattle.lists.specs.Lists.{all}
+use Rattle.types.specs.Capacities.{mostActors, lastState}
 use Rattle.types.specs.declared.Id.{Id}
 use Rattle.types.specs.declared.Message.{Message}
 use Rattle.rules.specs.Outcome.{Outcome, done, refused, base}
@@ -26,15 +27,15 @@ use Rattle.link_handlers.specs.Views.{linkView, didAs, startLink}
 -- A link among k actors that passes the tests.
 pub record LinkFine (k : ℕ) (l : Link) : Type 0 where
   pub durable : durableFine k (l .durable) ≡ true
-  pub state≤ : l .state ≤ 15
+  pub state≤ : l .state ≤ lastState
 
-kept : (k : ℕ) (l : Link) (m : Outcome rules.Did) (x : Did) → k ≤ 8 → x ≡ didAs l m → Holds (formed.DidFormed (base .limits) k) m → LinkFine k l → LinkFine k (x .link)
+kept : (k : ℕ) (l : Link) (m : Outcome rules.Did) (x : Did) → k ≤ mostActors → x ≡ didAs l m → Holds (formed.DidFormed (base .limits) k) m → LinkFine k l → LinkFine k (x .link)
 kept k l (done h) x b e f w =
     let z = f .value h refl in
     rw e (record { durable = durable-kept k (h .link .durable) b (formed.is-durable (base .limits) k (h .link .durable) (z .durable)); state≤ = z .state≤ })
 kept k l (refused n) x b e f w = rw e w
 
-module _ (k : ℕ) (b : k ≤ 8) (i : Id) (t : Table) (ok : tableOk t ≡ true) (x : Did) where
+module _ (k : ℕ) (b : k ≤ mostActors) (i : Id) (t : Table) (ok : tableOk t ≡ true) (x : Did) where
   tables : all ruleOk (rulesOf t) ≡ true
   tables = sound-rules (rulesOf t) (table-is t ok .good)
 

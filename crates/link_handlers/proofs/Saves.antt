@@ -6,6 +6,7 @@ use mathlib.Core.Bool.{Bool, true, false}
 use mathlib.Core.Option.{Option}
 use mathlib.Core.List.{List, [], _∷_, _++_, map, map-append}
 use Rattle.lists.specs.Lists.{choose, any}
+use Rattle.types.specs.Capacities.{network}
 use Rattle.types.specs.declared.Id.{Id}
 use Rattle.types.specs.declared.Message.{Message}
 use Rattle.types.specs.declared.Message.the-variants.{Deliver, Ack}
@@ -81,7 +82,7 @@ module _ (c : Limits) (i : Id) where
 
   pub start-tells : (rs : List Rule) (st : Option rules.Durable) → Holds (λ h. Alike (h .link .durable) (h .commands)) (rules.onStart c i rs st)
   unfolding rules.onStart rules.starting rules.startedBy
-  start-tells rs st = holds-bind _ _ (output-alike _ _) (λ o z. holds-done (alike-set _ 31 _ z))
+  start-tells rs st = holds-bind _ _ (output-alike _ _) (λ o z. holds-done (alike-set _ network _ z))
 
   pub msg-tells : (rs : List Rule) (l : rules.Link) (s : Id) (m : Message) → Holds (λ h. Alike (h .link .durable) (h .commands)) (rules.onMsg c i rs l s m)
   unfolding rules.onMsg rules.handing rules.acking rules.takenBy rules.ackedBy
@@ -92,7 +93,7 @@ module _ (c : Limits) (i : Id) where
 
   pub timeout-tells : (rs : List Rule) (l : rules.Link) (t : ℕ) → Holds (λ h. Alike (h .link .durable) (h .commands)) (rules.onTimeout c i rs l t)
   unfolding rules.onTimeout rules.resending rules.timing rules.idling rules.timedBy
-  timeout-tells rs l t = holds-choose _ _ _ (λ _. holds-done (alike-set _ 31 _ (alike-resent _ (l .durable .pending))))
+  timeout-tells rs l t = holds-choose _ _ _ (λ _. holds-done (alike-set _ network _ (alike-resent _ (l .durable .pending))))
       (λ _. holds-choose _ _ _ (λ _. holds-done (alike-nil _)) (λ _. holds-bind _ _ (output-alike _ _) (λ o z. holds-done z)))
 
 -- So the answered struct tells the commands of the rules, with their content.

@@ -17,6 +17,7 @@ use link_output::output_of;
 use link_output::push;
 use types::Id;
 use types::Message;
+use types::NETWORK;
 use types::Number;
 use types::Payload;
 ghost use mathlib.Core.Path.{_≡_};
@@ -24,6 +25,7 @@ ghost use mathlib.Core.Bool.{true, false};
 ghost use mathlib.Core.List.{List, []};
 ghost use Prim.Native.Nat.{_≤_, _<_};
 ghost use Rattle.lists.specs.Lists.{choose};
+ghost use Rattle.types.specs.Capacities.{mostActors, mostCommands};
 ghost use Rattle.types.specs.declared.Id.{Id};
 ghost use Rattle.types.specs.declared.Payload.{Payload};
 ghost use Rattle.types.specs.declared.Message.the-variants.{Deliver};
@@ -73,7 +75,7 @@ fn refuse(l: Link, answer: Answer) -> Did
 // What an event made of the inner actor, which was in state `old` and gave r. The touched mark decides, as in the Rust (owned
 // or still borrowed), and the states are not compared: an actor that writes its old state again has not ignored the event.
 fn settle(old: u8, r: Reaction) -> Settled
-    requires { ⌜ r .used ≤ 4 ⌝ }
+    requires { ⌜ r .used ≤ mostCommands ⌝ }
     ensures { λ x. ⌜ x ≡ record { ignored = ignored (replyOf r); state = choose (r .touched) (r .state) old } ⌝ }
 {
     let new = r.state;
@@ -91,11 +93,11 @@ fn settle(old: u8, r: Reaction) -> Settled
 
 // Set Network, then the inner actor's commands.
 fn start_with(d: Durable, r: Reaction) -> Did
-    requires { ⌜ Whole d × (r .used ≤ 4) ⌝ }
+    requires { ⌜ Whole d × (r .used ≤ mostCommands) ⌝ }
     ensures { λ x. ⌜ ((i : Id) → x ≡ didAs (record { durable = d; state = 0 }) (rules.starting (base .limits) i (durableView d) (replyOf r))) ⌝ }
 {
     let none = no_commands();
-    let first = push(none, LinkCommand::Set(31));
+    let first = push(none, LinkCommand::Set(NETWORK));
     let o = output_of(d, first, r);
     if !o.going {
         let a = o.answer;
@@ -146,7 +148,7 @@ fn ack_only(l: Link, s: Id, n: Number) -> Did
 
 // Message n of s is taken: its Ack first, the output, and the durable part saved.
 fn take_message(l: Link, s: Id, n: Number, r: Reaction) -> Did
-    requires { ⌜ Whole (l .durable) × (s .0 < 8) × (r .used ≤ 4) ⌝ }
+    requires { ⌜ Whole (l .durable) × (s .0 < mostActors) × (r .used ≤ mostCommands) ⌝ }
     ensures { λ x. ⌜ ((i : Id) (p : Payload) → x ≡ didAs l (bind (rules.output (base .limits) i (rules.withTaken s n (durableView (l .durable))) (replyOf r .out)) (rules.takenBy i (linkView l) s n p (replyOf r)))) ⌝ }
 {
     let d = l.durable;
@@ -175,7 +177,7 @@ fn take_message(l: Link, s: Id, n: Number, r: Reaction) -> Did
 
 // Message n of s was handed to the inner actor, which gave r.
 fn handed(l: Link, s: Id, n: Number, r: Reaction) -> Did
-    requires { ⌜ Whole (l .durable) × (s .0 < 8) × (r .used ≤ 4) ⌝ }
+    requires { ⌜ Whole (l .durable) × (s .0 < mostActors) × (r .used ≤ mostCommands) ⌝ }
     ensures { λ x. ⌜ ((i : Id) (p : Payload) → x ≡ didAs l (rules.handing (base .limits) i (linkView l) s n p (replyOf r))) ⌝ }
 {
     let now = settle(l.state, r);
@@ -187,7 +189,7 @@ fn handed(l: Link, s: Id, n: Number, r: Reaction) -> Did
 
 // Deliver(n, p) from s. Up to the last number taken, it is acked only.
 fn hear(table: Table, l: Link, s: Id, n: Number, p: Payload) -> Did
-    requires { ⌜ (tableOk table ≡ true) × Whole (l .durable) × (s .0 < 8) ⌝ }
+    requires { ⌜ (tableOk table ≡ true) × Whole (l .durable) × (s .0 < mostActors) ⌝ }
     ensures { λ x. ⌜ ((i : Id) → x ≡ didAs l (rules.onMsg (base .limits) i (rulesOf table) (linkView l) s (Deliver n p))) ⌝ }
 {
     let d = l.durable;
@@ -221,7 +223,7 @@ fn acknowledge(l: Link, n: Number) -> Did
 
 // A message from a source that is an actor.
 pub fn on_msg(table: Table, link: Link, source: Id, message: Message) -> Did
-    requires { ⌜ (tableOk table ≡ true) × (durableLaid (link .durable) ≡ true) × (source .0 < 8) ⌝ }
+    requires { ⌜ (tableOk table ≡ true) × (durableLaid (link .durable) ≡ true) × (source .0 < mostActors) ⌝ }
     ensures { λ x. ⌜ Hears table link source message x ⌝ }
 {
     match message {
@@ -239,7 +241,7 @@ fn resend(l: Link) -> Did
     let used = ps.used;
     let records = ps.records;
     let none = no_commands();
-    let mut cs = push(none, LinkCommand::Set(31));
+    let mut cs = push(none, LinkCommand::Set(NETWORK));
     let mut i = 0;
     while i < used {
         let q = records[i];
@@ -259,7 +261,7 @@ fn resend(l: Link) -> Did
 
 // A user timer ran out, and the inner actor gave r. Its new state is thrown away.
 fn timed(l: Link, r: Reaction) -> Did
-    requires { ⌜ Whole (l .durable) × (r .used ≤ 4) ⌝ }
+    requires { ⌜ Whole (l .durable) × (r .used ≤ mostCommands) ⌝ }
     ensures { λ x. ⌜ ((i : Id) → x ≡ didAs l (bind (rules.output (base .limits) i (durableView (l .durable)) (replyOf r .out)) (rules.timedBy (linkView l)))) ⌝ }
 {
     let d = l.durable;
@@ -297,12 +299,12 @@ fn idle(l: Link) -> Did
     }
 }
 
-// Timer 31 is Network; the others are the inner actor's.
+// Network is the link's own timer; the others are the inner actor's.
 pub fn on_timeout(table: Table, link: Link, timer: u8) -> Did
     requires { ⌜ (tableOk table ≡ true) × (durableLaid (link .durable) ≡ true) ⌝ }
     ensures { λ x. ⌜ TimesOut table link timer x ⌝ }
 {
-    if timer == 31 {
+    if timer == NETWORK {
         return resend(link);
     }
     let r = react(table, 3, link.state, Id(0), timer as u32);

@@ -13,6 +13,7 @@ use Rattle.lists.specs.Lists.{choose, any, all, pad}
 use Rattle.lists.proofs.Members.{every-cons}
 use Rattle.lists.proofs.Places.{append-pad}
 use Rattle.lists.proofs.Walks.{all-map, any-not-all, map-back}
+use Rattle.types.specs.Capacities.{mostTold, mostPending, mostActors, mostCommands}
 use Rattle.answers.specs.declared.Answer.{Answer}
 use Rattle.answers.specs.declared.Answer.the-variants.{NumbersUsedUp, PendingFull}
 use Rattle.types.specs.declared.Id.{Id}
@@ -49,18 +50,18 @@ commands-back l = ap (map (λ (s : CommandSlot). s .command)) (take-at (map slot
 pub commands-same : (cs : Commands) (l : List LinkCommand) → cs ≡ commandsOf l → cs ≡ commandsOf (commandsIn cs)
 commands-same cs l e = e ∙ ap commandsOf (sym (ap commandsIn e ∙ commands-back l))
 
-pub pushed : (cs : Commands) (c : LinkCommand) → cs ≡ commandsOf (commandsIn cs) → cs .used < 33
+pub pushed : (cs : Commands) (c : LinkCommand) → cs ≡ commandsOf (commandsIn cs) → cs .used < mostTold
     → _≡_ {A = Commands} (record { list = set (cs .list) (cs .used) (slot c); used = cs .used + 1 }) (commandsOf (commandsIn cs ++ c ∷ []))
 pushed cs c e h =
     let l = commandsIn cs in
     let u : cs .used ≡ length l = ap (λ (x : Commands). x .used) e in
     let n : length (map slot l) ≡ length l = length-map l slot in
     let v : cs .used ≡ length (map slot l) = omega arith in
-    let a : set (cs .list) (cs .used) (slot c) ≡ pad 33 (slot (Set 0)) (map slot (l ++ c ∷ [])) =
+    let a : set (cs .list) (cs .used) (slot c) ≡ pad mostTold (slot (Set 0)) (map slot (l ++ c ∷ [])) =
     ap (λ (x : List CommandSlot). set x (cs .used) (slot c)) (ap (λ (x : Commands). x .list) e)
-    ∙ ap (λ (k : ℕ). set (pad 33 (slot (Set 0)) (map slot l)) k (slot c)) v
-    ∙ append-pad 33 (map slot l) (slot c) (slot (Set 0)) (omega arith)
-    ∙ ap (pad 33 (slot (Set 0))) (sym (map-append slot l (c ∷ []))) in
+    ∙ ap (λ (k : ℕ). set (pad mostTold (slot (Set 0)) (map slot l)) k (slot c)) v
+    ∙ append-pad mostTold (map slot l) (slot c) (slot (Set 0)) (omega arith)
+    ∙ ap (pad mostTold (slot (Set 0))) (sym (map-append slot l (c ∷ []))) in
     let b : cs .used + 1 ≡ length (l ++ c ∷ []) = omega (arith, length-append l (c ∷ [])) in
     λ i. record { list = a i; used = b i }
 
@@ -91,28 +92,31 @@ pub output-same : (y : Output) (cs : List LinkCommand) (o : rules.Output) → y 
 output-same y cs o a b c d = λ i. record { going = a i; answer = b i; durable = c i; commands = d i }
 
 -- ---- a durable part that is laid out
-pub whole-is : (d : Durable) (e : rules.Durable) → d ≡ durableAs e → length (e .pending) ≤ 32 → length (e .taken) ≤ 8 → Whole d
+pub whole-is : (d : Durable) (e : rules.Durable) → d ≡ durableAs e → length (e .pending) ≤ mostPending → length (e .taken) ≤ mostActors → Whole d
 whole-is d e p h k = record { test = rw p (durable-fits e h k); same = p ∙ ap durableAs (sym (ap durableView p ∙ durable-back e)) }
 
 module _ (d : Durable) (w : Whole d) where
   pub whole-count : d .pending .used ≡ length (pendingList (d .pending))
   whole-count = ap (λ (x : Durable). x .pending .used) (w .same)
 
-  pub whole-pend : length (pendingList (d .pending)) ≤ 32
+  pub whole-pend : length (pendingList (d .pending)) ≤ mostPending
   unfolding pendingsLaid
-  whole-pend = let a = leb-true (d .pending .used) 32 (every-cons _ _ (durable-parts d (w .test) .0) .0) in let b = whole-count in omega arith
+  whole-pend =
+      let a = leb-true (d .pending .used) mostPending (every-cons _ _ (durable-parts d (w .test) .0) .0) in
+      let b = whole-count in
+      omega arith
 
   pub whole-room : d .pending .used ≤ length (d .pending .records)
   whole-room = let a = whole-count in omega (arith, length-take (d .pending .used) (d .pending .records))
 
-  pub whole-took : length (takenList (d .taken)) ≤ 8
+  pub whole-took : length (takenList (d .taken)) ≤ mostActors
   unfolding takenLaid
   whole-took =
-      let a = leb-true (d .taken .used) 8 (every-cons _ _ (durable-parts d (w .test) .1) .0) in
+      let a = leb-true (d .taken .used) mostActors (every-cons _ _ (durable-parts d (w .test) .1) .0) in
       let b : d .taken .used ≡ length (takenList (d .taken)) = ap (λ (x : Durable). x .taken .used) (w .same) in
       omega arith
 
-pub whole-of : (d : Durable) → length (d .pending .records) ≡ 32 → length (d .taken .last) ≡ 8 → durableLaid d ≡ true → Whole d
+pub whole-of : (d : Durable) → length (d .pending .records) ≡ mostPending → length (d .taken .last) ≡ mostActors → durableLaid d ≡ true → Whole d
 whole-of d n m e = record { test = e; same = durable-same d (durable-is d n m e) }
 
 -- ---- the structs, part by part
@@ -172,28 +176,37 @@ module _ (c : Limits) (i : Id) where
       go true false = refl
       go false b = refl
 
-  -- how much it is
+  -- how much it is: no more pending than the limit, and at most n commands
   pub record Small (n : ℕ) (o : rules.Output) : Type 0 where
-    pub pend : length (o .durable .pending) ≤ 32
-    pub took : length (o .durable .taken) ≤ 8
+    pub pend : length (o .durable .pending) ≤ c .pending
+    pub took : length (o .durable .taken) ≤ mostActors
     pub few : length (o .commands) ≤ n
 
-  pub process-small : (d : rules.Durable) (os : List InnerCommand) → c .pending ≤ 32 → length (d .pending) ≤ 32 → length (d .taken) ≤ 8 → Holds (Small (length os)) (rules.process c i d os)
-  unfolding rules.process rules.also rules.withInner rules.posting
-  process-small d [] l h k = holds-done (record { pend = h; took = k; few = zero-le })
-  process-small d (inner.SetTimer t ∷ os) l h k = holds-bind _ _ (process-small d os l h k) (λ o z. holds-done (record { pend = z .pend; took = z .took; few = let y = z .few in omega arith }))
-  process-small d (inner.CancelTimer t ∷ os) l h k = holds-bind _ _ (process-small d os l h k) (λ o z. holds-done (record { pend = z .pend; took = z .took; few = let y = z .few in omega arith }))
-  process-small d (inner.Save v ∷ os) l h k = holds-map (process-small (rules.withInner v d) os l h k) (λ o z. record { pend = z .pend; took = z .took; few = let y = z .few in omega arith })
-  process-small d (inner.Send r p ∷ os) l h k = holds-guard _ _ _ (λ a. holds-guard _ _ _ (λ b.
-      let f = ltb-true (length (d .pending)) (c .pending) b in
-      holds-bind _ _ (process-small (rules.posting r p d) os l (omega (arith, length-append (d .pending) (rules.numbered d r p ∷ []))) k)
-      (λ o z. holds-done (record { pend = z .pend; took = z .took; few = let y = z .few in omega arith }))))
+  also-small : (n : ℕ) (x : rules.Command) (v : List rules.Event) (o : rules.Output) → Small n o → Holds (Small (suc n)) (rules.also x v o)
+  unfolding rules.also
+  also-small n x v o z = holds-done (record { pend = z .pend; took = z .took; few = let y = z .few in omega arith })
 
-  pub output-small : (d : rules.Durable) (os : List InnerCommand) → c .pending ≤ 32 → length (d .pending) ≤ 32 → length (d .taken) ≤ 8 → Holds (Small (suc (length os))) (rules.output c i d os)
+  pub process-small : (d : rules.Durable) (os : List InnerCommand) → length (d .pending) ≤ c .pending → length (d .taken) ≤ mostActors
+      → Holds (Small (length os)) (rules.process c i d os)
+  unfolding rules.process rules.withInner rules.posting
+  process-small d [] h k = holds-done (record { pend = h; took = k; few = zero-le })
+  process-small d (inner.SetTimer t ∷ os) h k = holds-bind _ _ (process-small d os h k) (also-small (length os) _ _)
+  process-small d (inner.CancelTimer t ∷ os) h k = holds-bind _ _ (process-small d os h k) (also-small (length os) _ _)
+  process-small d (inner.Save v ∷ os) h k =
+      holds-map (process-small (rules.withInner v d) os h k) (λ o z. record { pend = z .pend; took = z .took; few = let y = z .few in omega arith })
+  process-small d (inner.Send r p ∷ os) h k = holds-guard _ _ _ (λ a. holds-guard _ _ _ (λ b.
+      let f = ltb-true (length (d .pending)) (c .pending) b in
+      let g = length-append (d .pending) (rules.numbered d r p ∷ []) in
+      holds-bind _ _ (process-small (rules.posting r p d) os (omega arith) k) (also-small (length os) _ _)))
+
+  pub output-small : (d : rules.Durable) (os : List InnerCommand) → length (d .pending) ≤ c .pending → length (d .taken) ≤ mostActors
+      → Holds (Small (suc (length os))) (rules.output c i d os)
   unfolding rules.output rules.thenSave choose
-  output-small d os l h k = holds-bind _ _ (process-small d os l h k) (λ o z. holds-done (record { pend = z .pend; took = z .took; few = more o (any rules.durably os) (z .few) }))
+  output-small d os h k = holds-bind _ _ (process-small d os h k)
+      (λ o z. holds-done (record { pend = z .pend; took = z .took; few = more o (any rules.durably os) (z .few) }))
     where
-      more : (o : rules.Output) (b : Bool) → length (o .commands) ≤ length os → length (o .commands ++ choose b (rules.Save (o .durable) ∷ []) []) ≤ suc (length os)
+      more : (o : rules.Output) (b : Bool) → length (o .commands) ≤ length os
+          → length (o .commands ++ choose b (rules.Save (o .durable) ∷ []) []) ≤ suc (length os)
       more o true f = omega (arith, length-append (o .commands) (rules.Save (o .durable) ∷ []))
       more o false f = omega (arith, length-append (o .commands) [])
 
@@ -247,8 +260,9 @@ pub record Ready (n : ℕ) (y : Output) : Type 0 where
   pub same : y .commands ≡ commandsOf (commandsIn (y .commands))
   pub few : y .commands .used ≤ n
 
-pub ready : (c : Limits) (i : Id) (cs : List LinkCommand) (m : Outcome rules.Output) (y : Output) (n : ℕ) → Holds (Small c i n) m → y ≡ outputAs cs m → y .going ≡ true → Ready (length cs + n) y
-ready c i cs m y n h e g =
+pub ready : (i : Id) (cs : List LinkCommand) (m : Outcome rules.Output) (y : Output) (n : ℕ)
+    → Holds (Small (base .limits) i n) m → y ≡ outputAs cs m → y .going ≡ true → Ready (length cs + n) y
+ready i cs m y n h e g =
     let w = went cs m y e g in
     let s = h .value (w .out) (w .is) in
     let l = cs ++ map commandAs (w .out .commands) in
@@ -256,18 +270,22 @@ ready c i cs m y n h e g =
     let v : length l ≡ length cs + length (map commandAs (w .out .commands)) = length-append cs (map commandAs (w .out .commands)) in
     let k : length (map commandAs (w .out .commands)) ≡ length (w .out .commands) = length-map (w .out .commands) commandAs in
     let f = s .few in
-    record { whole = whole-is (y .durable) (w .out .durable) (w .durable) (s .pend) (s .took); same = commands-same (y .commands) l (w .commands); few = omega arith }
+    record {
+      whole = whole-is (y .durable) (w .out .durable) (w .durable) (s .pend) (s .took);
+      same = commands-same (y .commands) l (w .commands);
+      few = omega arith;
+    }
 
 -- after at most one command, of a reaction
-pub told-few : (r : Reaction) → r .used ≤ 4 → length (replyOf r .out) ≤ 4
+pub told-few : (r : Reaction) → r .used ≤ mostCommands → length (replyOf r .out) ≤ mostCommands
 told-few r h =
     let n = length-map (take (r .used) (r .commands)) (λ (s : InnerSlot). s .command) in
     omega (arith, length-take (r .used) (r .commands))
 
-pub ready-within : (i : Id) (cs : Commands) (m : Outcome rules.Output) (y : Output) (n : ℕ) → n ≤ 5 → Holds (Small (base .limits) i n) m → cs ≡ commandsOf (commandsIn cs) → cs .used ≤ 1
-    → y ≡ outputAs (commandsIn cs) m → y .going ≡ true → Ready 6 y
+pub ready-within : (i : Id) (cs : Commands) (m : Outcome rules.Output) (y : Output) (n : ℕ) → n ≤ mostCommands + 1 → Holds (Small (base .limits) i n) m
+    → cs ≡ commandsOf (commandsIn cs) → cs .used ≤ 1 → y ≡ outputAs (commandsIn cs) m → y .going ≡ true → Ready (mostCommands + 2) y
 ready-within i cs m y n k h e u f g =
-    let z = ready (base .limits) i (commandsIn cs) m y n h f g in
+    let z = ready i (commandsIn cs) m y n h f g in
     let q : cs .used ≡ length (commandsIn cs) = ap (λ (x : Commands). x .used) e in
     let v = z .few in
     record { whole = z .whole; same = z .same; few = omega arith }

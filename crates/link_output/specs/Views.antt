@@ -5,6 +5,7 @@ use mathlib.Core.Bool.{true, false}
 use mathlib.Core.List.{List, [], _++_, map}
 use lib.ListN.{length, take}
 use Rattle.lists.specs.Lists.{pad}
+use Rattle.types.specs.Capacities.{mostTold}
 use Rattle.types.specs.declared.Id.{Id}
 use Rattle.answers.specs.Answers.{answerOf}
 use Rattle.rules.specs.Outcome.{Outcome, done, refused, base}
@@ -24,7 +25,7 @@ pub record Whole (d : Durable) : Type 0 where
   pub test : durableLaid d ≡ true
   pub same : d ≡ durableAs (durableView d)
 
--- ---- commands, the used ones of 33 places; the others are zero
+-- ---- commands, the used ones of their places; the others are zero
 abbrev pub slot : LinkCommand → CommandSlot
 slot c = record { command = c }
 
@@ -32,7 +33,7 @@ abbrev pub commandsIn : Commands → List LinkCommand
 commandsIn c = map (λ (s : CommandSlot). s .command) (take (c .used) (c .list))
 
 abbrev pub commandsOf : List LinkCommand → Commands
-commandsOf l = record { list = pad 33 (slot (Set 0)) (map slot l); used = length l }
+commandsOf l = record { list = pad mostTold (slot (Set 0)) (map slot l); used = length l }
 
 -- A Save names no durable part: it saves the one of the answered link.
 unfoldable pub commandAs : rules.Command → LinkCommand

@@ -4,6 +4,7 @@ use Prim.Native.Nat.{ℕ, _≤_, _-_}
 use mathlib.Core.Path.{_≡_, refl, ap, _∙_}
 use mathlib.Core.List.{[]}
 use lib.ListN.{length}
+use Rattle.types.specs.Capacities.{mostPending, network}
 use Rattle.answers.specs.Answers.{answerOf}
 use Rattle.rules.specs.Link.{resent, resending}
 use Rattle.link_durable.specs.Views.{zeroPending}
@@ -16,7 +17,7 @@ use Rattle.link_handlers.proofs.resend.Statement.{statement}
 use Rattle.link_handlers.proofs.resend.Tie as tie
 
 abbrev Inv-loop : tie.InvT-loop
-Inv-loop l used records cs₀ i₀ cs i = (used ≤ length records) × (used ≤ 32) × (i ≤ used) × (cs ≡ commandsOf (resentTo i records))
+Inv-loop l used records cs₀ i₀ cs i = (used ≤ length records) × (used ≤ mostPending) × (i ≤ used) × (cs ≡ commandsOf (resentTo i records))
 
 abbrev μ-loop : tie.MeasureT-loop
 μ-loop l used records cs₀ i₀ cs i = used - i
@@ -34,7 +35,7 @@ loop-holds c =
     let w = a .pre in
     let d = a .args .l .durable in
     let n = whole-count d w in let m = whole-pend d w in
-    (whole-room d w, omega arith, search needs, then-one _ [] (Set 31) _ (c .before .no-commands .ensures) (c .push .ensures))
+    (whole-room d w, omega arith, search needs, then-one _ [] (Set network) _ (c .before .no-commands .ensures) (c .push .ensures))
 
 mul-q : tie.Need-mul-q Inv-loop μ-loop
 mul-q c = let l = c .before .loop in let u = l .inv .1 in search needs

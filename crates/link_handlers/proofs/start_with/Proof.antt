@@ -1,6 +1,7 @@
 use borrow.Author.Tests.{not-true, not-false}
 use mathlib.Core.Path.{refl, _∙_}
 use mathlib.Core.List.{[], _∷_}
+use Rattle.types.specs.Capacities.{network}
 use Rattle.answers.specs.Answers.{answerOf}
 use Rattle.rules.specs.Link as rules
 use Rattle.link_inner.specs.Views.{replyOf}
@@ -21,7 +22,7 @@ push-requires c κs = none-ready _ (c .no-commands .ensures)
 
 output-of-requires : tie.Need-output-of-requires
 output-of-requires c κs =
-    let f = first-few _ _ (Set 31) (c .before .no-commands .ensures) (c .push .ensures) in
+    let f = first-few _ _ (Set network) (c .before .no-commands .ensures) (c .push .ensures) in
     (c .before .before .pre .0, f .0, f .1, c .before .before .pre .1)
 
 refuse-requires : tie.Need-refuse-requires
@@ -38,7 +39,7 @@ unfolding answerOf rules.starting rules.startedBy commandAs
 returns-2 c = λ i.
     let y = c .before .before .before .before .output-of .result in
     let w = went _ _ y (c .before .before .before .before .output-of .ensures i) (not-false (y .going) (c .before .before .if1 .left)) in
-    did-is _ _ _ _ _ _ _ refl (link-is _ _ _ _ (w .durable) refl) (after _ (Set 31 ∷ []) _ (w .out .commands) (w .commands) (first-in _ _ (Set 31) (c .before .before .before .before .before .before .no-commands .ensures) (c .before .before .before .before .before .push .ensures)))
+    did-is _ _ _ _ _ _ _ refl (link-is _ _ _ _ (w .durable) refl) (after _ (Set network ∷ []) _ (w .out .commands) (w .commands) (first-in _ _ (Set network) (c .before .before .before .before .before .before .no-commands .ensures) (c .before .before .before .before .before .push .ensures)))
     ∙ did-goes _ _ y (c .before .before .before .before .output-of .ensures i) _ (rules.startedBy (replyOf (c .before .before .before .before .before .before .before .args .r))) w
 
 pub start-with-spec : {M : Type 1} → statement M

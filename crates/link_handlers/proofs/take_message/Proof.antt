@@ -13,7 +13,6 @@ use Rattle.link_handlers.specs.Views.{linkView}
 use Rattle.link_output.proofs.Outputs.{went}
 use Rattle.link_handlers.proofs.Handlers.{did-is, link-is}
 use native.Mathlib.Omega.{arith}
-use lib.Dec.{lit≤}
 use Rattle.types.specs.declared.Message.the-variants.{Ack}
 use Rattle.rules.specs.Inner.{nobody}
 use Rattle.link_output.specs.declared.LinkCommand.the-variants.{Send}
@@ -56,7 +55,7 @@ push-requires-2 c κs =
     let h = taken-whole (a .args .l .durable) t (a .args .s) (a .args .n) (a .pre .0) (a .pre .1) (c .before .before .before .before .before .before .before .take-number .ensures) in
     let k = first-few _ _ (Send (a .args .s) (Ack (a .args .n))) (c .before .before .before .before .before .before .no-commands .ensures) (c .before .before .before .before .before .push .ensures) in
     let f = told-few (a .args .r) (a .pre .2) in
-    let p = output-small (base .limits) nobody (durableView t) (replyOf (a .args .r) .out) (lit≤ tt) (whole-pend t h) (whole-took t h) in
+    let p = output-small (base .limits) nobody (durableView t) (replyOf (a .args .r) .out) (whole-pend t h) (whole-took t h) in
     let z = ready-within nobody (c .before .before .before .before .before .push .result) _ y _ (omega arith) p (k .0) (k .1) (c .before .before .before .before .output-of .ensures nobody) g in
     let u = z .few in
     (z .same, omega arith)

@@ -2,7 +2,6 @@ use borrow.Author.Tests.{not-true, not-false}
 use native.Mathlib.Omega.{arith}
 use mathlib.Core.Path.{_≡_, sym, _∙_}
 use mathlib.Core.Bool.{true}
-use lib.Dec.{lit≤}
 use Rattle.answers.specs.Answers.{answerOf}
 use Rattle.rules.specs.Outcome.{base}
 use Rattle.rules.specs.Inner.{nobody}
@@ -32,7 +31,7 @@ push-requires c κs =
     let y = c .before .before .before .before .before .before .process .result in
     let g : y .going ≡ true = not-false (y .going) (c .before .before .before .before .if1 .left) in
     let f = told-few (a .args .r) (a .pre .3) in
-    let p = process-small (base .limits) nobody (durableView (a .args .d)) (replyOf (a .args .r) .out) (lit≤ tt) (whole-pend (a .args .d) (a .pre .0)) (whole-took (a .args .d) (a .pre .0)) in
+    let p = process-small (base .limits) nobody (durableView (a .args .d)) (replyOf (a .args .r) .out) (whole-pend (a .args .d) (a .pre .0)) (whole-took (a .args .d) (a .pre .0)) in
     let z = ready-within nobody (a .args .cs) _ y _ (omega arith) p (a .pre .1) (a .pre .2) (c .before .before .before .before .before .before .process .ensures nobody) g in
     let u = z .few in
     (z .same, omega arith)

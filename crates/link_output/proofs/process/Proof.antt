@@ -7,6 +7,7 @@ use mathlib.Core.Bool.{true, false}
 use mathlib.Core.List.{List, [], _∷_}
 use lib.ListN.{length, take, drop, getD}
 use Rattle.lists.proofs.Places.{length-mapped}
+use Rattle.types.specs.Capacities.{mostCommands}
 use Rattle.types.specs.declared.Id.{Id}
 use Rattle.types.specs.declared.InnerCommand.{InnerCommand}
 use Rattle.answers.specs.Answers.{answerOf}
@@ -22,7 +23,7 @@ use Rattle.link_output.proofs.process.Statement.{statement}
 use Rattle.link_output.proofs.process.Tie as tie
 
 abbrev Inv-loop : tie.InvT-loop
-Inv-loop used told e₀ out₀ i₀ e out i = (used ≤ length told) × (used ≤ 4) × (i ≤ used) × Whole e × (out ≡ commandsOf (commandsIn out)) × (out .used ≤ i + 1)
+Inv-loop used told e₀ out₀ i₀ e out i = (used ≤ length told) × (used ≤ mostCommands) × (i ≤ used) × Whole e × (out ≡ commandsOf (commandsIn out)) × (out .used ≤ i + 1)
     × ((j : Id) → outputAs (commandsIn out₀) (rules.process (base .limits) j (durableView e₀) (tellings (take used told))) ≡ outputAs (commandsIn out) (rules.process (base .limits) j (durableView e) (tellings (drop i (take used told)))))
 
 abbrev μ-loop : tie.MeasureT-loop
@@ -31,7 +32,7 @@ abbrev μ-loop : tie.MeasureT-loop
 loop-holds : tie.Need-loop-holds Inv-loop μ-loop
 loop-holds c =
     let a = c .before in
-    let n : length (a .args .r .commands) ≡ 4 = search (needs, length-mapped, a .good .1 .1) in
+    let n : length (a .args .r .commands) ≡ mostCommands = search (needs, length-mapped, a .good .1 .1) in
     (omega arith, a .pre .3, search needs, a .pre .0, a .pre .1, a .pre .2, λ j. refl)
 
 mul-s : tie.Need-mul-s Inv-loop μ-loop
@@ -68,8 +69,8 @@ loop-again c =
     let g : y .going ≡ true = not-false (y .going) (c .before .before .if1 .left) in
     let x = getD (a .r .commands) (l .i) outside .command in
     let os = tellings (drop (l .i + 1) (take (a .r .used) (a .r .commands))) in
-    let p = process-small (base .limits) nobody (durableView (l .e)) (x ∷ []) (omega arith) (whole-pend (l .e) (l .inv .3)) (whole-took (l .e) (l .inv .3)) in
-    let z = ready (base .limits) nobody (commandsIn (l .out)) _ y 1 p (c .before .before .before .before .process-one .ensures nobody) g in
+    let p = process-small (base .limits) nobody (durableView (l .e)) (x ∷ []) (whole-pend (l .e) (l .inv .3)) (whole-took (l .e) (l .inv .3)) in
+    let z = ready nobody (commandsIn (l .out)) _ y 1 p (c .before .before .before .before .process-one .ensures nobody) g in
     let q : l .out .used ≡ length (commandsIn (l .out)) = ap (λ (k : Commands). k .used) (l .inv .4) in
     let u = z .few in
     let v = l .inv .5 in (
