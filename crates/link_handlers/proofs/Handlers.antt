@@ -28,11 +28,12 @@ use Rattle.rules.specs.Outcome.{Outcome, bind, Limits, base}
 use Rattle.rules.specs.Inner.{Reply, reply, atStart, ignored, nobody}
 use Rattle.rules.specs.WellFormed.{ruleOk}
 use Rattle.rules.specs.Link as rules
-use Rattle.link_inner.specs.declared.Reaction.{Reaction}
+use Rattle.link_react.specs.declared.Reaction.{Reaction}
 use Rattle.link_inner.specs.declared.Table.{Table}
-use Rattle.link_inner.specs.Views.{rulesOf, reactionOf, replyOf, tableOk}
-use Rattle.link_inner.proofs.Replies.{sound-rules, reply-few, start-few, reply-back}
-use Rattle.link_inner.proofs.Tables.{table-is}
+use Rattle.link_inner.specs.Views.{rulesOf, tableOk}
+use Rattle.link_react.specs.Views.{reactionOf, replyOf}
+use Rattle.link_inner.proofs.Tables.{sound-rules, table-is}
+use Rattle.link_react.proofs.Replies.{reply-few, start-few, reply-back}
 use Rattle.link_durable.specs.declared.Durable.{Durable}
 use Rattle.link_durable.specs.declared.Stored.{Stored}
 use Rattle.link_durable.specs.Views.{pendingList, takenList, durableView, durableAs, storedView, pendingsLaid, takenLaid, durableLaid, storedLaid}

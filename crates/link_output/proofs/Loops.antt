@@ -8,7 +8,7 @@ use mathlib.Core.List.{List, [], _∷_, map}
 use lib.ListN.{length, take, drop, getD, drop-of-length-le}
 use lib.Seq.{length-take-le, drop-cons, getD-take}
 use Rattle.types.specs.declared.InnerCommand.{InnerCommand}
-use Rattle.link_inner.specs.declared.InnerSlot.{InnerSlot}
+use Rattle.link_react.specs.declared.InnerSlot.{InnerSlot}
 use Rattle.link_output.proofs.Outputs.{outside}
 
 -- the commands that a reaction has still to tell

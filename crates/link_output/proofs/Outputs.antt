@@ -26,9 +26,9 @@ use Rattle.rules.specs.Outcome.{Outcome, done, refused, bind, guard, Limits, ba
 use Rattle.rules.specs.Inner.{ignored}
 use Rattle.rules.specs.Link as rules
 use Rattle.rules.proofs.Laws.{Holds, holds-done, holds-map, holds-bind, holds-guard}
-use Rattle.link_inner.specs.declared.InnerSlot.{InnerSlot}
-use Rattle.link_inner.specs.declared.Reaction.{Reaction}
-use Rattle.link_inner.specs.Views.{replyOf}
+use Rattle.link_react.specs.declared.InnerSlot.{InnerSlot}
+use Rattle.link_react.specs.declared.Reaction.{Reaction}
+use Rattle.link_react.specs.Views.{replyOf}
 use Rattle.link_durable.specs.declared.Durable.{Durable}
 use Rattle.link_durable.specs.Views.{pendingList, takenList, durableView, durableAs, pendingsLaid, takenLaid, durableLaid}
 use Rattle.link_durable.proofs.Containers.{durable-parts, durable-is, durable-same, durable-fits, durable-back}

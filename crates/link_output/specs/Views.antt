@@ -10,8 +10,8 @@ use Rattle.types.specs.declared.Id.{Id}
 use Rattle.answers.specs.Answers.{answerOf}
 use Rattle.rules.specs.Outcome.{Outcome, done, refused, base}
 use Rattle.rules.specs.Link as rules
-use Rattle.link_inner.specs.declared.Reaction.{Reaction}
-use Rattle.link_inner.specs.Views.{replyOf}
+use Rattle.link_react.specs.declared.Reaction.{Reaction}
+use Rattle.link_react.specs.Views.{replyOf}
 use Rattle.link_durable.specs.declared.Durable.{Durable}
 use Rattle.link_durable.specs.Views.{durableView, durableAs, durableLaid}
 use Rattle.link_output.specs.declared.LinkCommand.{LinkCommand}

@@ -7,7 +7,7 @@ use link_durable::Durable;
 use link_durable::fresh_durable;
 use link_durable::post;
 use link_durable::save_value;
-use link_inner::Reaction;
+use link_react::Reaction;
 use types::Id;
 use types::InnerCommand;
 use types::MOST_PENDING;
@@ -26,7 +26,7 @@ ghost use Rattle.answers.specs.declared.Answer.the-variants.{Done};
 ghost use Rattle.types.specs.declared.InnerCommand.the-variants as inner;
 ghost use Rattle.rules.specs.Outcome.{base};
 ghost use Rattle.rules.specs.Link as rules;
-ghost use Rattle.link_inner.specs.Views.{replyOf};
+ghost use Rattle.link_react.specs.Views.{replyOf};
 ghost use Rattle.link_durable.specs.Views.{durableView, durableAs};
 ghost use Rattle.link_output.specs.Views.{commandsIn, commandsOf, outputAs, Outputs, Whole};
 

@@ -1,6 +1,6 @@
 use mathlib.Core.Path.{sym, ap, _∙_}
 use Rattle.rules.specs.Outcome.{base}
-use Rattle.link_inner.specs.Views.{replyOf}
+use Rattle.link_react.specs.Views.{replyOf}
 use Rattle.link_handlers.specs.declared.Settled.{Settled}
 use Rattle.link_handlers.specs.Views.{linkView, didAs}
 use Rattle.link_handlers.proofs.Handlers.{handing-ignored, handing-takes}

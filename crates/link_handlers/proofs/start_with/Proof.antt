@@ -4,7 +4,7 @@ use mathlib.Core.List.{[], _∷_}
 use Rattle.types.specs.Capacities.{network}
 use Rattle.answers.specs.Answers.{answerOf}
 use Rattle.rules.specs.Link as rules
-use Rattle.link_inner.specs.Views.{replyOf}
+use Rattle.link_react.specs.Views.{replyOf}
 use Rattle.link_output.specs.Views.{commandAs}
 use Rattle.link_output.proofs.Outputs.{went}
 use Rattle.link_handlers.proofs.Handlers.{did-is, link-is}

@@ -5,7 +5,7 @@ use mathlib.Core.List.{[], _∷_}
 use Rattle.answers.specs.Answers.{answerOf}
 use Rattle.rules.specs.Outcome.{base}
 use Rattle.rules.specs.Link as rules
-use Rattle.link_inner.specs.Views.{replyOf}
+use Rattle.link_react.specs.Views.{replyOf}
 use Rattle.link_durable.specs.Views.{durableView}
 use Rattle.link_output.specs.Views.{commandAs}
 use Rattle.link_handlers.specs.declared.Settled.{Settled}

@@ -5,7 +5,7 @@ use mathlib.Core.Bool.{true}
 use Rattle.answers.specs.Answers.{answerOf}
 use Rattle.rules.specs.Outcome.{base}
 use Rattle.rules.specs.Inner.{nobody}
-use Rattle.link_inner.specs.Views.{replyOf}
+use Rattle.link_react.specs.Views.{replyOf}
 use Rattle.link_durable.specs.Views.{durableView}
 use Rattle.link_output.specs.Views.{commandsIn}
 use Rattle.link_output.proofs.Outputs.{whole-pend, whole-took, process-small, told-few, ready-within, output-stops, output-saves, output-plain}
