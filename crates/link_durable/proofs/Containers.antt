@@ -3,13 +3,13 @@
 use Prim.Native.Nat.{ℕ, suc, _+_, _-_, _≤_, _<_}
 use native.Mathlib.Omega.{arith}
 use mathlib.Core.Path.{_≡_, refl, sym, ap, _∙_}
-use mathlib.Core.Bool.{Bool, true}
+use mathlib.Core.Bool.{Bool, true, false}
 use mathlib.Core.List.{List, [], _∷_, _++_}
 use lib.ListN.{length, take, drop, getD, set, replicate, length-append, length-drop, take-append-drop, List·getD-eq-default}
 use lib.Seq.{take-at, drop-at, length-take-le}
 use lib.Dec.{leb, eqb}
 use borrow.Author.Tests.{leb-true, le-leb, eqb-true}
-use Rattle.lists.specs.Lists.{all, chain, endsIn, every, lead, del, pad, shrink}
+use Rattle.lists.specs.Lists.{choose, all, chain, endsIn, every, lead, del, pad, shrink}
 use Rattle.lists.proofs.Members.{every-cons, every-make, every-nil}
 use Rattle.lists.proofs.Walks.{all-same}
 use Rattle.lists.proofs.Places.{length-del, cut-found, cut-missing, laid-length, laid-get, laid-shrink, laid-append, laid-write, write-within, write-beyond}
@@ -25,7 +25,7 @@ use Rattle.rules.specs.WellFormed.{pendingOk, byNumber, durableOk}
 use Rattle.link_durable.specs.declared.Pendings.{Pendings}
 use Rattle.link_durable.specs.declared.Taken.{Taken}
 use Rattle.link_durable.specs.declared.Durable.{Durable}
-use Rattle.link_durable.specs.Views.{zeroPending, pendingList, pendingsOf, otherNumber, takenList, takenAs, durableView, durableAs, blankPending, blankNumber, pendingsLaid, takenLaid, durableLaid}
+use Rattle.link_durable.specs.Views.{zeroPending, pendingList, pendingsOf, otherNumber, takenList, takenAs, durableView, durableAs, blankPending, pendingPasses, blankNumber, pendingsLaid, takenLaid, durableLaid}
 
 -- ---- an array of which the first places are used and the others hold z, as a test p finds it
 pub record Laid {A : Type 0} (n : ℕ) (z : A) (es : List A) (used : ℕ) : Type 0 where
@@ -190,6 +190,11 @@ pub durable-same : (d : Durable) → DurableLaid d → d ≡ durableAs (durableV
 durable-same d l = same-parts (d .next) (d .next) (d .pending) _ (d .taken) _ (d .inner) refl (pendings-same (d .pending) (l .pendings)) (taken-same (d .taken) (l .numbers))
 
 -- ---- the test of a durable part
+-- The used places pass where the rules' test passes.
+pub used-pass : (next : ℕ) (l : List Pending) → all (pendingOk next) l ≡ all (pendingPasses false next) l
+unfolding choose
+used-pass next l = refl
+
 pub formed : (d : Durable) (k : ℕ) → DurableLaid d → durableOk (base .limits) k (durableView d) ≡ every
     (leb 1 (d .next .0) ∷ all (pendingOk (d .next .0)) (pendingList (d .pending)) ∷ chain byNumber (pendingList (d .pending))
     ∷ leb (d .taken .used) k ∷ endsIn (λ n. leb 1 (n .0)) (takenList (d .taken)) ∷ [])

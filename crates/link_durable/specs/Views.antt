@@ -14,7 +14,7 @@ use Rattle.types.specs.declared.Storage.{Storage}
 use Rattle.types.specs.declared.Storage.the-variants.{Nothing, Value}
 use Rattle.rules.specs.Outcome.{base}
 use Rattle.rules.specs.Link as rules
-use Rattle.rules.specs.WellFormed.{durableOk, storedOk}
+use Rattle.rules.specs.WellFormed.{pendingOk, durableOk, storedOk}
 use Rattle.link_durable.specs.declared.Pendings.{Pendings}
 use Rattle.link_durable.specs.declared.Taken.{Taken}
 use Rattle.link_durable.specs.declared.Durable.{Durable}
@@ -60,6 +60,10 @@ storedAs (some d) = record { some = true; durable = durableAs d }
 -- ---- laid out: the counts fit, and the places that are not used are zero
 unfoldable pub blankPending : Pending → Bool
 blankPending q = every (eqb (q .number .0) 0 ∷ eqb (q .dst .0) 0 ∷ eqb (q .payload .0) 0 ∷ [])
+
+-- A place for a record: zero where it is free.
+abbrev pub pendingPasses : Bool → ℕ → Pending → Bool
+pendingPasses free next q = choose free (blankPending q) (pendingOk next q)
 
 unfoldable pub blankNumber : Number → Bool
 blankNumber n = eqb (n .0) 0

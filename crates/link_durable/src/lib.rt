@@ -16,8 +16,8 @@ ghost use Rattle.lists.specs.Lists.{all, chain, endsIn, lead, shrink};
 ghost use Rattle.types.specs.Capacities.{mostPending, mostActors};
 ghost use Rattle.rules.specs.Outcome.{base};
 ghost use Rattle.rules.specs.Link.{fresh, durableOf, lastOf, lastTaken, noteTaken, withTaken, without, acked, posting, withInner};
-ghost use Rattle.rules.specs.WellFormed.{pendingOk, byNumber, durableOk};
-ghost use Rattle.link_durable.specs.Views.{zeroPending, pendingList, pendingsOf, otherNumber, takenList, takenAs, durableView, durableAs, storedView, blankPending, blankNumber, pendingsLaid, takenLaid, durableLaid, unsaved, blankDurable, storedLaid, durableFine, storedFine};
+ghost use Rattle.rules.specs.WellFormed.{byNumber, durableOk};
+ghost use Rattle.link_durable.specs.Views.{zeroPending, pendingList, pendingsOf, otherNumber, takenList, takenAs, durableView, durableAs, storedView, blankPending, pendingPasses, pendingsLaid, takenLaid, durableLaid, unsaved, blankDurable, storedLaid, durableFine, storedFine};
 
 // Messages sent and not acked, ascending by number. Places from the used count on are zero.
 pub struct Pendings {
@@ -285,16 +285,29 @@ fn blank_pending(q: Pending) -> bool
     q.payload.0 == 0
 }
 
-// Places from the used count on are zero.
-fn pendings_rest(p: Pendings) -> bool
-    requires { ⌜ p .used ≤ mostPending ⌝ }
-    ensures { λ x. ⌜ x ≡ all blankPending (drop (p .used) (p .records)) ⌝ }
+// A place for a record: zero where it is free. A used one has a number of 1 or more, below the next one.
+fn pending_passes(free: bool, next: u64, q: Pending) -> bool
+    ensures { λ x. ⌜ x ≡ pendingPasses free next q ⌝ }
+{
+    if free {
+        return blank_pending(q);
+    }
+    if q.number.0 < 1 {
+        return false;
+    }
+    q.number.0 < next
+}
+
+// The places from one up to another: free, or used.
+fn pendings_pass(p: Pendings, free: bool, next: u64, from: usize, to: usize) -> bool
+    requires { ⌜ to ≤ mostPending ⌝ }
+    ensures { λ x. ⌜ x ≡ all (pendingPasses free next) (drop from (take to (p .records))) ⌝ }
 {
     let records = p.records;
-    let mut i = p.used;
-    while i < MOST_PENDING {
+    let mut i = from;
+    while i < to {
         let here = records[i];
-        if !blank_pending(here) {
+        if !pending_passes(free, next, here) {
             return false;
         }
         i += 1;
@@ -305,18 +318,22 @@ fn pendings_rest(p: Pendings) -> bool
 fn pendings_laid(p: Pendings) -> bool
     ensures { λ x. ⌜ x ≡ pendingsLaid p ⌝ }
 {
-    if MOST_PENDING < p.used {
+    let used = p.used;
+    if MOST_PENDING < used {
         return false;
     }
-    pendings_rest(p)
+    pendings_pass(p, true, 0, used, MOST_PENDING)
 }
 
-fn taken_rest(t: Taken) -> bool
-    requires { ⌜ t .used ≤ mostActors ⌝ }
-    ensures { λ x. ⌜ x ≡ all blankNumber (drop (t .used) (t .last)) ⌝ }
+fn taken_laid(t: Taken) -> bool
+    ensures { λ x. ⌜ x ≡ takenLaid t ⌝ }
 {
+    let used = t.used;
+    if MOST_ACTORS < used {
+        return false;
+    }
     let last = t.last;
-    let mut i = t.used;
+    let mut i = used;
     while i < MOST_ACTORS {
         let here = last[i];
         if here.0 != 0 {
@@ -325,15 +342,6 @@ fn taken_rest(t: Taken) -> bool
         i += 1;
     }
     true
-}
-
-fn taken_laid(t: Taken) -> bool
-    ensures { λ x. ⌜ x ≡ takenLaid t ⌝ }
-{
-    if MOST_ACTORS < t.used {
-        return false;
-    }
-    taken_rest(t)
 }
 
 fn durable_laid(d: Durable) -> bool
@@ -345,33 +353,6 @@ fn durable_laid(d: Durable) -> bool
     }
     let t = d.taken;
     taken_laid(t)
-}
-
-// A pending number is 1 or more, and below the next one.
-fn pending_ok(next: u64, q: Pending) -> bool
-    ensures { λ x. ⌜ x ≡ pendingOk next q ⌝ }
-{
-    if q.number.0 < 1 {
-        return false;
-    }
-    q.number.0 < next
-}
-
-fn pendings_ok(p: Pendings, next: u64) -> bool
-    requires { ⌜ p .used ≤ mostPending ⌝ }
-    ensures { λ x. ⌜ x ≡ all (pendingOk next) (pendingList p) ⌝ }
-{
-    let used = p.used;
-    let records = p.records;
-    let mut i = 0;
-    while i < used {
-        let here = records[i];
-        if !pending_ok(next, here) {
-            return false;
-        }
-        i += 1;
-    }
-    true
 }
 
 // Each number is below the next one.
@@ -417,7 +398,7 @@ fn durable_formed(d: Durable, actors: usize) -> bool
     if next.0 < 1 {
         return false;
     }
-    if !pendings_ok(p, next.0) {
+    if !pendings_pass(p, false, next.0, 0, p.used) {
         return false;
     }
     if !ascending(p) {
