@@ -9,7 +9,7 @@ use mathlib.Core.Option.{Option, none, some}
 use mathlib.Core.List.{List, [], _∷_, _++_, map, map-append, append-assoc}
 use lib.ListN.{length, take, getD, length-map, length-take}
 use lib.Seq.{take-suc, length-take-le}
-use lib.Dec.{lit<, lit≤, leb}
+use lib.Dec.{lit≤, leb}
 use borrow.Author.Tests.{leb-true, eq-eqb, ne-eqb}
 use Rattle.lists.specs.Lists.{choose, all}
 use Rattle.lists.proofs.Members.{every-cons}
@@ -24,7 +24,7 @@ use Rattle.types.specs.declared.Storage.{Storage}
 use Rattle.types.specs.declared.Rule.{Rule}
 use Rattle.types.specs.declared.Message.the-variants.{Deliver}
 use Rattle.answers.specs.Answers.{answerOf}
-use Rattle.rules.specs.Outcome.{Outcome, bind, Limits, base}
+use Rattle.rules.specs.Outcome.{Outcome, done, refused, bind, Limits, base}
 use Rattle.rules.specs.Inner.{Reply, reply, atStart, ignored, nobody}
 use Rattle.rules.specs.WellFormed.{ruleOk}
 use Rattle.rules.specs.Link as rules
@@ -45,7 +45,7 @@ use Rattle.link_output.specs.declared.Commands.{Commands}
 use Rattle.link_output.specs.declared.Output.{Output}
 use Rattle.link_handlers.specs.declared.Did.{Did}
 use Rattle.link_output.specs.Views.{commandsIn, commandsOf, commandAs, outputAs, Whole}
-use Rattle.link_handlers.specs.Views.{linkAs, didAs}
+use Rattle.link_handlers.specs.Views.{linkAs, didAs, concluded}
 use Rattle.link_output.proofs.Outputs.{commands-back, commands-same, then-one, Went, halted, whole-is, whole-pend, whole-took}
 
 -- ---- the structs, part by part
@@ -57,14 +57,14 @@ pub link-is : (d e : Durable) (s t : ℕ) → d ≡ e → s ≡ t → _≡_ {A =
 link-is d e s t p q = λ i. record { durable = p i; state = q i }
 
 -- ---- the first commands
-pub none-ready : (cs : Commands) → cs ≡ commandsOf [] → (cs ≡ commandsOf (commandsIn cs)) × (cs .used < mostTold)
-none-ready cs e = (commands-same cs [] e, rw e (lit< tt))
-
 pub none-few : (cs : Commands) → cs ≡ commandsOf [] → (cs ≡ commandsOf (commandsIn cs)) × (cs .used ≤ 1)
 none-few cs e = (commands-same cs [] e, rw e (lit≤ tt))
 
 pub one-few : (cs : Commands) (c : LinkCommand) → cs ≡ commandsOf (c ∷ []) → (cs ≡ commandsOf (commandsIn cs)) × (cs .used ≤ 1)
 one-few cs c e = (commands-same cs (c ∷ []) e, rw e (lit≤ tt))
+
+pub one-in : (cs : Commands) (c : LinkCommand) → cs ≡ commandsOf (c ∷ []) → commandsIn cs ≡ c ∷ []
+one-in cs c e = ap commandsIn e ∙ commands-back (c ∷ [])
 
 -- ---- an output, and what is made of it
 module _ (cs : List LinkCommand) (m : Outcome rules.Output) (y : Output) (e : y ≡ outputAs cs m) (l : Link) (k : rules.Output → Outcome rules.Did) where
@@ -78,6 +78,19 @@ module _ (cs : List LinkCommand) (m : Outcome rules.Output) (y : Output) (e : y 
   pub did-goes : (w : Went cs m y) → didAs l (k (w .out)) ≡ didAs l (bind m k)
   unfolding bind
   did-goes w = ap (didAs l) (sym (ap (λ (x : Outcome rules.Output). bind x k) (w .is)))
+
+-- What is concluded from an output y that follows the commands cs: k says it of the rules' output.
+pub concludes : (cs : List LinkCommand) (m : Outcome rules.Output) (y : Output) (l : Link) (s : ℕ) (k : rules.Output → Outcome rules.Did) → y ≡ outputAs cs m
+    → ((o : rules.Output) → didAs l (k o) ≡ record {
+      answer = answerOf 0;
+      link = record { durable = durableAs (o .durable); state = s };
+      touched = true;
+      commands = commandsOf (cs ++ map commandAs (o .commands));
+    })
+    → concluded l y s ≡ didAs l (bind m k)
+unfolding bind choose
+concludes cs (done o) y l s k e f = ap (λ (x : Output). concluded l x s) e ∙ sym (f o)
+concludes cs (refused n) y l s k e f = ap (λ (x : Output). concluded l x s) e
 
 -- commands told after the first ones
 pub after : (first cs : List LinkCommand) (c : Commands) (os : List rules.Command) → c ≡ commandsOf (first ++ map commandAs os) → first ≡ cs → c ≡ commandsOf (cs ++ map commandAs os)
@@ -207,13 +220,6 @@ start-as c i rs st d y e f =
     let v : durableView d ≡ rules.durableOf st = ap durableView e ∙ durable-back (rules.durableOf st) in
     let u : y ≡ atStart rs (rules.durableOf st .inner) = f ∙ ap (λ (x : Durable). atStart rs (x .inner)) e in
     λ j. didAs (record { durable = e j; state = 0 }) (rules.starting c i (v j) (u j))
-
--- the one command that stands first
-pub first-in : (bare first : Commands) (c : LinkCommand) → bare ≡ commandsOf [] → first ≡ commandsOf (commandsIn bare ++ c ∷ []) → commandsIn first ≡ c ∷ []
-first-in bare first c e f = ap commandsIn (then-one bare [] c first e f) ∙ commands-back (c ∷ [])
-
-pub first-few : (bare first : Commands) (c : LinkCommand) → bare ≡ commandsOf [] → first ≡ commandsOf (commandsIn bare ++ c ∷ []) → (first ≡ commandsOf (commandsIn first)) × (first .used ≤ 1)
-first-few bare first c e f = one-few first c (then-one bare [] c first e f)
 
 -- the Save that ends a taken message
 pub saved-last : (cs : List LinkCommand) (y z : Commands) (os : List rules.Command) (d : rules.Durable) → y ≡ commandsOf (cs ++ map commandAs os) → z ≡ commandsOf (commandsIn y ++ Save ∷ [])

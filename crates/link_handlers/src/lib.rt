@@ -9,7 +9,9 @@ use link_durable::take_number;
 use link_inner::Table;
 use link_output::Commands;
 use link_output::LinkCommand;
+use link_output::Output;
 use link_output::no_commands;
+use link_output::one_command;
 use link_output::output_of;
 use link_output::push;
 use link_react::Reaction;
@@ -37,7 +39,7 @@ ghost use Rattle.link_inner.specs.Views.{rulesOf, tableOk};
 ghost use Rattle.link_react.specs.Views.{replyOf};
 ghost use Rattle.link_durable.specs.Views.{durableView, storedView, durableLaid, storedLaid};
 ghost use Rattle.link_output.specs.Views.{commandsOf, Whole};
-ghost use Rattle.link_handlers.specs.Views.{linkView, didAs, Starts, Hears, TimesOut};
+ghost use Rattle.link_handlers.specs.Views.{linkView, didAs, concluded, Starts, Hears, TimesOut};
 
 // The volatile part is the inner actor's state.
 pub struct Link {
@@ -73,6 +75,27 @@ fn refuse(l: Link, answer: Answer) -> Did
     }
 }
 
+// What is made of an output: a refusal, or the link that it leaves, in this state.
+fn conclude(l: Link, o: Output, state: u8) -> Did
+    ensures { λ x. ⌜ x ≡ concluded l o state ⌝ }
+{
+    if !o.going {
+        let a = o.answer;
+        return refuse(l, a);
+    }
+    let e = o.durable;
+    let out = o.commands;
+    Did {
+        answer: Answer::Done,
+        link: Link {
+            durable: e,
+            state: state,
+        },
+        touched: true,
+        commands: out,
+    }
+}
+
 // What an event made of the inner actor, which was in state `old` and gave r. The touched mark decides, as in the Rust (owned
 // or still borrowed), and the states are not compared: an actor that writes its old state again has not ignored the event.
 fn settle(old: u8, r: Reaction) -> Settled
@@ -97,28 +120,13 @@ fn start_with(d: Durable, r: Reaction) -> Did
     requires { ⌜ Whole d × (r .used ≤ mostCommands) ⌝ }
     ensures { λ x. ⌜ ((i : Id) → x ≡ didAs (record { durable = d; state = 0 }) (rules.starting (base .limits) i (durableView d) (replyOf r))) ⌝ }
 {
-    let none = no_commands();
-    let first = push(none, LinkCommand::Set(NETWORK));
+    let first = one_command(LinkCommand::Set(NETWORK));
     let o = output_of(d, first, r);
-    if !o.going {
-        let a = o.answer;
-        let l = Link {
-            durable: d,
-            state: 0,
-        };
-        return refuse(l, a);
-    }
-    let e = o.durable;
-    let out = o.commands;
-    Did {
-        answer: Answer::Done,
-        link: Link {
-            durable: e,
-            state: r.state,
-        },
-        touched: true,
-        commands: out,
-    }
+    let l = Link {
+        durable: d,
+        state: 0,
+    };
+    conclude(l, o, r.state)
 }
 
 // Start, on what is stored. A refusal hands back the link that it set out with.
@@ -137,8 +145,7 @@ fn ack_only(l: Link, s: Id, n: Number) -> Did
     requires { ⌜ Whole (l .durable) ⌝ }
     ensures { λ x. ⌜ ((v : List rules.Event) → x ≡ didAs l (rules.acking (linkView l) s n v)) ⌝ }
 {
-    let none = no_commands();
-    let cs = push(none, LinkCommand::Send(s, Message::Ack(n)));
+    let cs = one_command(LinkCommand::Send(s, Message::Ack(n)));
     Did {
         answer: Answer::Done,
         link: l,
@@ -154,8 +161,7 @@ fn take_message(l: Link, s: Id, n: Number, r: Reaction) -> Did
 {
     let d = l.durable;
     let t = take_number(d, s, n);
-    let none = no_commands();
-    let first = push(none, LinkCommand::Send(s, Message::Ack(n)));
+    let first = one_command(LinkCommand::Send(s, Message::Ack(n)));
     let o = output_of(t, first, r);
     if !o.going {
         let a = o.answer;
@@ -209,8 +215,7 @@ fn acknowledge(l: Link, n: Number) -> Did
 {
     let d = l.durable;
     let e = drop_acked(d, n);
-    let none = no_commands();
-    let cs = push(none, LinkCommand::Save);
+    let cs = one_command(LinkCommand::Save);
     Did {
         answer: Answer::Done,
         link: Link {
@@ -241,8 +246,7 @@ fn resend(l: Link) -> Did
     let ps = l.durable.pending;
     let used = ps.used;
     let records = ps.records;
-    let none = no_commands();
-    let mut cs = push(none, LinkCommand::Set(NETWORK));
+    let mut cs = one_command(LinkCommand::Set(NETWORK));
     let mut i = 0;
     while i < used {
         let q = records[i];
@@ -268,22 +272,8 @@ fn timed(l: Link, r: Reaction) -> Did
     let d = l.durable;
     let none = no_commands();
     let o = output_of(d, none, r);
-    if !o.going {
-        let a = o.answer;
-        return refuse(l, a);
-    }
-    let e = o.durable;
-    let out = o.commands;
     let kept = l.state;
-    Did {
-        answer: Answer::Done,
-        link: Link {
-            durable: e,
-            state: kept,
-        },
-        touched: true,
-        commands: out,
-    }
+    conclude(l, o, kept)
 }
 
 // Nothing happens.

@@ -83,6 +83,14 @@ pub fn push(cs: Commands, c: LinkCommand) -> Commands
     }
 }
 
+// One command and no other.
+pub fn one_command(c: LinkCommand) -> Commands
+    ensures { λ r. ⌜ r ≡ commandsOf (c ∷ []) ⌝ }
+{
+    let none = no_commands();
+    push(none, c)
+}
+
 // ---- inner output, in order
 fn going_on(d: Durable, cs: Commands) -> Output
     ensures { λ r. ⌜ r ≡ record { going = true; answer = Done; durable = d; commands = cs } ⌝ }
