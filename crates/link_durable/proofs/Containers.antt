@@ -1,4 +1,5 @@
--- The structs' changes as changes of the lists that they hold.
+-- The structs' changes as changes of the lists that they hold. An array whose free places are zero is its list padded with zeros, so
+-- that a change of the one is the change of the other.
 -- Assumes nothing.
 use Prim.Native.Nat.{ℕ, suc, _+_, _-_, _≤_, _<_}
 use native.Mathlib.Omega.{arith}
@@ -25,7 +26,8 @@ use Rattle.rules.specs.WellFormed.{pendingOk, byNumber, durableOk}
 use Rattle.link_durable.specs.declared.Pendings.{Pendings}
 use Rattle.link_durable.specs.declared.Taken.{Taken}
 use Rattle.link_durable.specs.declared.Durable.{Durable}
-use Rattle.link_durable.specs.Views.{zeroPending, pendingList, pendingsOf, otherNumber, takenList, takenAs, durableView, durableAs, blankPending, pendingPasses, blankNumber, pendingsLaid, takenLaid, durableLaid}
+use Rattle.link_durable.specs.Views.{zeroPending, pendingList, pendingsOf, otherNumber, takenList, takenAs, durableView, durableAs, blankPending}
+use Rattle.link_durable.specs.Views.{pendingPasses, blankNumber, pendingsLaid, takenLaid, durableLaid}
 
 -- ---- an array of which the first places are used and the others hold z, as a test p finds it
 pub record Laid {A : Type 0} (n : ℕ) (z : A) (es : List A) (used : ℕ) : Type 0 where
@@ -33,7 +35,8 @@ pub record Laid {A : Type 0} (n : ℕ) (z : A) (es : List A) (used : ℕ) : Type
   pub rest : es ≡ pad n z (take used es)
 
 module _ {A : Type 0} (p : A → Bool) (z : A) where
-  laid-is : ((x : A) → p x ≡ true → x ≡ z) → (n : ℕ) (es : List A) (used : ℕ) → length es ≡ n → every (leb used n ∷ all p (drop used es) ∷ []) ≡ true → Laid n z es used
+  laid-is : ((x : A) → p x ≡ true → x ≡ z) → (n : ℕ) (es : List A) (used : ℕ) → length es ≡ n → every (leb used n ∷ all p (drop used es) ∷ []) ≡ true
+      → Laid n z es used
   unfolding pad
   laid-is only n es used h e =
       let a = every-cons _ _ e in
@@ -54,7 +57,8 @@ module _ {A : Type 0} (p : A → Bool) (z : A) where
   -- an array that holds a list
   is-laid : p z ≡ true → (n : ℕ) (l : List A) → length l ≤ n → every (leb (length l) n ∷ all p (drop (length l) (pad n z l)) ∷ []) ≡ true
   unfolding pad
-  is-laid zero n l h = every-make _ _ (le-leb (length l) n h) (every-make _ _ (ap (all p) (drop-at l _ (length l) refl) ∙ all-fill zero (n - length l)) every-nil)
+  is-laid zero n l h =
+      every-make _ _ (le-leb (length l) n h) (every-make _ _ (ap (all p) (drop-at l _ (length l) refl) ∙ all-fill zero (n - length l)) every-nil)
 
 pub pad-view : {A : Type 0} (n : ℕ) (z : A) (l : List A) → take (length l) (pad n z l) ≡ l
 unfolding pad
@@ -84,13 +88,15 @@ module _ (p : Pendings) (laid : PendingLaid p) where
   count = laid-length mostPending zeroPending (p .records) (p .used) (laid .fit) (laid .rest)
 
   -- the struct of a list
-  as-list : (es : List Pending) (u : ℕ) (l : List Pending) → es ≡ pad mostPending zeroPending l → u ≡ length l → _≡_ {A = Pendings} (record { records = es; used = u }) (pendingsOf l)
+  as-list : (es : List Pending) (u : ℕ) (l : List Pending) → es ≡ pad mostPending zeroPending l → u ≡ length l
+      → _≡_ {A = Pendings} (record { records = es; used = u }) (pendingsOf l)
   as-list es u l e f = λ i. record { records = e i; used = f i }
 
   pub pendings-same : p ≡ pendingsOf (pendingList p)
   pendings-same = as-list (p .records) (p .used) (pendingList p) (laid .rest) (sym count)
 
-  pub removed : (n : Number) (at : ℕ) → at ≡ lead (otherNumber n) (pendingList p) → at < p .used → (es : List Pending) → es ≡ shrink (p .used) at zeroPending (p .records)
+  pub removed : (n : Number) (at : ℕ) → at ≡ lead (otherNumber n) (pendingList p) → at < p .used → (es : List Pending)
+      → es ≡ shrink (p .used) at zeroPending (p .records)
       → _≡_ {A = Pendings} (record { records = es; used = p .used - 1 }) (pendingsOf (without n (pendingList p)))
   unfolding without
   removed n at e h es f =
@@ -98,7 +104,8 @@ module _ (p : Pendings) (laid : PendingLaid p) where
       let w : lead (otherNumber n) (pendingList p) < length (pendingList p) = omega arith in
       let d = cut-found (λ (q : Pending). eqb (n .0) (q .number .0)) (pendingList p) w in
       rw d (as-list es (p .used - 1) _
-      (f ∙ laid-shrink mostPending zeroPending (p .records) (p .used) (laid .fit) (laid .rest) at h ∙ ap (λ (k : ℕ). pad mostPending zeroPending (del k (pendingList p))) e)
+      (f ∙ laid-shrink mostPending zeroPending (p .records) (p .used) (laid .fit) (laid .rest) at h
+      ∙ ap (λ (k : ℕ). pad mostPending zeroPending (del k (pendingList p))) e)
       (omega (arith, length-del (lead (otherNumber n) (pendingList p)) (pendingList p) w)))
 
   pub absent : (n : Number) (at : ℕ) → at ≡ lead (otherNumber n) (pendingList p) → p .used ≤ at → p ≡ pendingsOf (without n (pendingList p))
@@ -107,7 +114,8 @@ module _ (p : Pendings) (laid : PendingLaid p) where
       let v = count in
       rw (cut-missing (λ (q : Pending). eqb (n .0) (q .number .0)) (λ q. []) (pendingList p) (omega arith)) pendings-same
 
-  pub appended : (q : Pending) → p .used < mostPending → _≡_ {A = Pendings} (record { records = set (p .records) (p .used) q; used = p .used + 1 }) (pendingsOf (pendingList p ++ q ∷ []))
+  pub appended : (q : Pending) → p .used < mostPending
+      → _≡_ {A = Pendings} (record { records = set (p .records) (p .used) q; used = p .used + 1 }) (pendingsOf (pendingList p ++ q ∷ []))
   appended q h =
       let v = count in
       as-list _ _ (pendingList p ++ q ∷ []) (laid-append mostPending zeroPending (p .records) (p .used) (laid .fit) (laid .rest) q h)
@@ -133,7 +141,8 @@ module _ (t : Taken) (laid : TakenLaid t) where
   held : length (takenList t) ≡ t .used
   held = laid-length mostActors untaken (t .last) (t .used) (laid .fit) (laid .rest)
 
-  as-taken : (es : List Number) (u : ℕ) (l : List Number) → es ≡ pad mostActors untaken l → u ≡ length l → _≡_ {A = Taken} (record { last = es; used = u }) (takenAs l)
+  as-taken : (es : List Number) (u : ℕ) (l : List Number) → es ≡ pad mostActors untaken l → u ≡ length l
+      → _≡_ {A = Taken} (record { last = es; used = u }) (takenAs l)
   as-taken es u l e f = λ i. record { last = e i; used = f i }
 
   pub taken-same : t ≡ takenAs (takenList t)
@@ -187,7 +196,8 @@ pub same-parts : (n m : Number) (p q : Pendings) (t u : Taken) (s : Storage) →
 same-parts n m p q t u s e f g = λ i. record { next = e i; pending = f i; taken = g i; inner = s }
 
 pub durable-same : (d : Durable) → DurableLaid d → d ≡ durableAs (durableView d)
-durable-same d l = same-parts (d .next) (d .next) (d .pending) _ (d .taken) _ (d .inner) refl (pendings-same (d .pending) (l .pendings)) (taken-same (d .taken) (l .numbers))
+durable-same d l =
+    same-parts (d .next) (d .next) (d .pending) _ (d .taken) _ (d .inner) refl (pendings-same (d .pending) (l .pendings)) (taken-same (d .taken) (l .numbers))
 
 -- ---- the test of a durable part
 -- The used places pass where the rules' test passes.

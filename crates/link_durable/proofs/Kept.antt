@@ -1,4 +1,5 @@
--- What is stored, part by part; and what the tests say of a struct that holds a well-formed durable part.
+-- What is stored, part by part; and what the tests say of a struct that holds a well-formed durable part. Well formed bounds the
+-- lists, so that they fit their arrays.
 -- Assumes nothing.
 use Prim.Native.Nat.{ℕ, _≤_}
 use native.Mathlib.Omega.{arith}
@@ -16,7 +17,8 @@ use Rattle.rules.specs.WellFormed.{durableOk, storedOk}
 use Rattle.rules.proofs.FormedLink as formed
 use Rattle.link_durable.specs.declared.Durable.{Durable}
 use Rattle.link_durable.specs.declared.Stored.{Stored}
-use Rattle.link_durable.specs.Views.{durableView, durableAs, storedView, storedAs, zeroDurable, durableLaid, unsaved, blankDurable, storedLaid, durableFine, storedFine}
+use Rattle.link_durable.specs.Views.{durableView, durableAs, storedView, storedAs, zeroDurable, durableLaid, unsaved, blankDurable, storedLaid}
+use Rattle.link_durable.specs.Views.{durableFine, storedFine}
 use Rattle.link_durable.proofs.Containers.{durable-fits, durable-back}
 
 pub stored-some : (k : ℕ) (s : Stored) → s .some ≡ true → storedFine k s ≡ durableFine k (s .durable)

@@ -17,7 +17,9 @@ ghost use Rattle.types.specs.Capacities.{mostPending, mostActors};
 ghost use Rattle.rules.specs.Outcome.{base};
 ghost use Rattle.rules.specs.Link.{fresh, durableOf, lastOf, lastTaken, noteTaken, withTaken, without, acked, posting, withInner};
 ghost use Rattle.rules.specs.WellFormed.{byNumber, durableOk};
-ghost use Rattle.link_durable.specs.Views.{zeroPending, pendingList, pendingsOf, otherNumber, takenList, takenAs, durableView, durableAs, storedView, blankPending, pendingPasses, pendingsLaid, takenLaid, durableLaid, unsaved, blankDurable, storedLaid, durableFine, storedFine};
+ghost use Rattle.link_durable.specs.Views.{zeroPending, pendingList, pendingsOf, otherNumber, takenList, takenAs, durableView, durableAs, storedView};
+ghost use Rattle.link_durable.specs.Views.{blankPending, pendingPasses, pendingsLaid, takenLaid, durableLaid, unsaved, blankDurable, storedLaid};
+ghost use Rattle.link_durable.specs.Views.{durableFine, storedFine};
 
 // Messages sent and not acked, ascending by number. Places from the used count on are zero.
 pub struct Pendings {

@@ -1,4 +1,5 @@
--- What a handler makes of an output, and the commands that it begins with.
+-- What a handler makes of an output, and the commands that it begins with. A handler of the rules binds the output to what follows,
+-- so that the two cases of the output are those of the answer.
 -- Assumes nothing.
 use Prim.Native.Nat.{ℕ, suc, _+_, _≤_, _<_}
 use native.Mathlib.Numerals.{add-one}
@@ -73,7 +74,8 @@ module _ (cs : List LinkCommand) (m : Outcome rules.Output) (y : Output) (e : y 
   did-stops g =
       let h = halted cs m y e g in
       let f : y .answer ≡ answerOf (h .0) = h .2 in
-      (λ i. record { answer = f i; link = l; touched = false; commands = commandsOf [] }) ∙ ap (didAs l) (sym (ap (λ (x : Outcome rules.Output). bind x k) (h .1)))
+      (λ i. record { answer = f i; link = l; touched = false; commands = commandsOf [] })
+      ∙ ap (didAs l) (sym (ap (λ (x : Outcome rules.Output). bind x k) (h .1)))
 
   pub did-goes : (w : Went cs m y) → didAs l (k (w .out)) ≡ didAs l (bind m k)
   unfolding bind
@@ -93,13 +95,15 @@ concludes cs (done o) y l s k e f = ap (λ (x : Output). concluded l x s) e ∙ 
 concludes cs (refused n) y l s k e f = ap (λ (x : Output). concluded l x s) e
 
 -- commands told after the first ones
-pub after : (first cs : List LinkCommand) (c : Commands) (os : List rules.Command) → c ≡ commandsOf (first ++ map commandAs os) → first ≡ cs → c ≡ commandsOf (cs ++ map commandAs os)
+pub after : (first cs : List LinkCommand) (c : Commands) (os : List rules.Command) → c ≡ commandsOf (first ++ map commandAs os) → first ≡ cs
+    → c ≡ commandsOf (cs ++ map commandAs os)
 after first cs c os e f = e ∙ ap (λ (x : List LinkCommand). commandsOf (x ++ map commandAs os)) f
 
 -- ---- the durable part of which a number was taken
 pub taken-whole : (d t : Durable) (s : Id) (n : Number) → Whole d → s .0 < mostActors → t ≡ durableAs (rules.withTaken s n (durableView d)) → Whole t
 unfolding rules.withTaken rules.noteTaken
-taken-whole d t s n w h e = whole-is t (rules.withTaken s n (durableView d)) e (whole-pend d w) (write-length rules.untaken (s .0) n _ mostActors h (whole-took d w))
+taken-whole d t s n w h e =
+    whole-is t (rules.withTaken s n (durableView d)) e (whole-pend d w) (write-length rules.untaken (s .0) n _ mostActors h (whole-took d w))
 
 -- ---- pending messages sent again
 abbrev pub again : Pending → rules.Command
@@ -126,7 +130,8 @@ resent-used cs rs i h e =
     omega (arith, resent-length (take i rs), length-take-le i rs h)
 
 pub resent-next : (rs : List Pending) (i : ℕ) (d : Pending) (cs z : Commands) → i < length rs → cs ≡ commandsOf (resentTo i rs)
-    → z ≡ commandsOf (commandsIn cs ++ Send (getD rs i d .dst) (Deliver (getD rs i d .number) (getD rs i d .payload)) ∷ []) → z ≡ commandsOf (resentTo (i + 1) rs)
+    → z ≡ commandsOf (commandsIn cs ++ Send (getD rs i d .dst) (Deliver (getD rs i d .number) (getD rs i d .payload)) ∷ [])
+    → z ≡ commandsOf (resentTo (i + 1) rs)
 unfolding commandAs
 resent-next rs i d cs z h e f =
     let q = getD rs i d in
@@ -139,11 +144,13 @@ resent-next rs i d cs z h e f =
 
 -- ---- which way a handler goes
 module _ (c : Limits) (i : Id) (l : rules.Link) where
-  pub msg-old : (rs : List Rule) (s : Id) (n : Number) (p : Payload) → leb (n .0) (rules.lastTaken s (l .durable) .0) ≡ true → rules.acking l s n [] ≡ rules.onMsg c i rs l s (Deliver n p)
+  pub msg-old : (rs : List Rule) (s : Id) (n : Number) (p : Payload) → leb (n .0) (rules.lastTaken s (l .durable) .0) ≡ true
+      → rules.acking l s n [] ≡ rules.onMsg c i rs l s (Deliver n p)
   unfolding rules.onMsg choose
   msg-old rs s n p e = rw e
 
-  pub msg-new : (rs : List Rule) (s : Id) (n : Number) (p : Payload) → leb (n .0) (rules.lastTaken s (l .durable) .0) ≡ false → rules.handing c i l s n p (reply rs 2 (l .state) s (p .0)) ≡ rules.onMsg c i rs l s (Deliver n p)
+  pub msg-new : (rs : List Rule) (s : Id) (n : Number) (p : Payload) → leb (n .0) (rules.lastTaken s (l .durable) .0) ≡ false
+      → rules.handing c i l s n p (reply rs 2 (l .state) s (p .0)) ≡ rules.onMsg c i rs l s (Deliver n p)
   unfolding rules.onMsg choose
   msg-new rs s n p e = rw e
 
@@ -165,9 +172,12 @@ module _ (c : Limits) (i : Id) (l : rules.Link) where
   unfolding rules.onTimeout choose
   timeout-user rs t e = rw (ne-eqb t network e)
 
-  pub timeout-idle : (rs : List Rule) (t : ℕ) → (t ≡ network → ⊥) → ignored (reply rs 3 (l .state) nobody t) ≡ true → rules.idling l ≡ rules.onTimeout c i rs l t
+  pub timeout-idle : (rs : List Rule) (t : ℕ) → (t ≡ network → ⊥) → ignored (reply rs 3 (l .state) nobody t) ≡ true
+      → rules.idling l ≡ rules.onTimeout c i rs l t
   unfolding rules.timing choose
-  timeout-idle rs t e f = sym (ap (λ (b : Bool). choose b (rules.idling l) (bind (rules.output c i (l .durable) (reply rs 3 (l .state) nobody t .out)) (rules.timedBy l))) f) ∙ timeout-user rs t e
+  timeout-idle rs t e f =
+      sym (ap (λ (b : Bool). choose b (rules.idling l) (bind (rules.output c i (l .durable) (reply rs 3 (l .state) nobody t .out)) (rules.timedBy l))) f)
+      ∙ timeout-user rs t e
 
   pub timeout-goes : (rs : List Rule) (t : ℕ) (r : Reply) → (t ≡ network → ⊥) → r ≡ reply rs 3 (l .state) nobody t → ignored r ≡ false
       → bind (rules.output c i (l .durable) (r .out)) (rules.timedBy l) ≡ rules.onTimeout c i rs l t
@@ -213,8 +223,10 @@ stored-whole s d e f = go (s .some) f
     go true q = let h = some-small (s .durable) (every-cons _ _ e .0) in whole-is d _ q (h .0) (h .1)
     go false q = whole-is d _ q (lit≤ tt) (lit≤ tt)
 
-pub start-as : (c : Limits) (i : Id) (rs : List Rule) (st : Option rules.Durable) (d : Durable) (y : Reply) → d ≡ durableAs (rules.durableOf st) → y ≡ atStart rs (d .inner)
-    → didAs (record { durable = d; state = 0 }) (rules.starting c i (durableView d) y) ≡ didAs (linkAs (record { durable = rules.durableOf st; state = 0 })) (rules.onStart c i rs st)
+pub start-as : (c : Limits) (i : Id) (rs : List Rule) (st : Option rules.Durable) (d : Durable) (y : Reply) → d ≡ durableAs (rules.durableOf st)
+    → y ≡ atStart rs (d .inner)
+    → didAs (record { durable = d; state = 0 }) (rules.starting c i (durableView d) y)
+    ≡ didAs (linkAs (record { durable = rules.durableOf st; state = 0 })) (rules.onStart c i rs st)
 unfolding rules.onStart
 start-as c i rs st d y e f =
     let v : durableView d ≡ rules.durableOf st = ap durableView e ∙ durable-back (rules.durableOf st) in
@@ -222,15 +234,20 @@ start-as c i rs st d y e f =
     λ j. didAs (record { durable = e j; state = 0 }) (rules.starting c i (v j) (u j))
 
 -- the Save that ends a taken message
-pub saved-last : (cs : List LinkCommand) (y z : Commands) (os : List rules.Command) (d : rules.Durable) → y ≡ commandsOf (cs ++ map commandAs os) → z ≡ commandsOf (commandsIn y ++ Save ∷ [])
+pub saved-last : (cs : List LinkCommand) (y z : Commands) (os : List rules.Command) (d : rules.Durable) → y ≡ commandsOf (cs ++ map commandAs os)
+    → z ≡ commandsOf (commandsIn y ++ Save ∷ [])
     → z ≡ commandsOf (cs ++ map commandAs (os ++ rules.Save d ∷ []))
 unfolding commandAs
 saved-last cs y z os d e f =
     then-one y (cs ++ map commandAs os) Save z e f
-    ∙ ap commandsOf (append-assoc cs (map commandAs os) (Save ∷ []) ∙ ap (λ (x : List LinkCommand). cs ++ x) (sym (map-append commandAs os (rules.Save d ∷ []))))
+    ∙ ap commandsOf (append-assoc cs (map commandAs os) (Save ∷ [])
+    ∙ ap (λ (x : List LinkCommand). cs ++ x) (sym (map-append commandAs os (rules.Save d ∷ []))))
 
 -- the output of what was made of a number taken, seen as the rules say it
-pub taken-seen : (i : Id) (l : Link) (s : Id) (n : Number) (r : Reaction) (t : Durable) (cs : List LinkCommand) (y : Output) → t ≡ durableAs (rules.withTaken s n (durableView (l .durable)))
-    → y ≡ outputAs cs (rules.output (base .limits) i (durableView t) (replyOf r .out)) → y ≡ outputAs cs (rules.output (base .limits) i (rules.withTaken s n (durableView (l .durable))) (replyOf r .out))
+pub taken-seen : (i : Id) (l : Link) (s : Id) (n : Number) (r : Reaction) (t : Durable) (cs : List LinkCommand) (y : Output)
+    → t ≡ durableAs (rules.withTaken s n (durableView (l .durable)))
+    → y ≡ outputAs cs (rules.output (base .limits) i (durableView t) (replyOf r .out))
+    → y ≡ outputAs cs (rules.output (base .limits) i (rules.withTaken s n (durableView (l .durable))) (replyOf r .out))
 taken-seen i l s n r t cs y e f =
-    f ∙ ap (λ (d : rules.Durable). outputAs cs (rules.output (base .limits) i d (replyOf r .out))) (ap durableView e ∙ durable-back (rules.withTaken s n (durableView (l .durable))))
+    f ∙ ap (λ (d : rules.Durable). outputAs cs (rules.output (base .limits) i d (replyOf r .out)))
+    (ap durableView e ∙ durable-back (rules.withTaken s n (durableView (l .durable))))

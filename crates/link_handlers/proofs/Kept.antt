@@ -1,4 +1,4 @@
--- A handler keeps what the tests say of its actor's link.
+-- A handler keeps what the tests say of its actor's link: a refusal hands it back, and what the rules give is well formed.
 -- Assumes nothing.
 use Prim.Native.Nat.{ℕ, _≤_, _<_}
 use mathlib.Core.Path.{_≡_, refl}
@@ -28,7 +28,8 @@ pub record LinkFine (k : ℕ) (l : Link) : Type 0 where
   pub durable : durableFine k (l .durable) ≡ true
   pub state≤ : l .state ≤ lastState
 
-kept : (k : ℕ) (l : Link) (m : Outcome rules.Did) (x : Did) → k ≤ mostActors → x ≡ didAs l m → Holds (formed.DidFormed (base .limits) k) m → LinkFine k l → LinkFine k (x .link)
+kept : (k : ℕ) (l : Link) (m : Outcome rules.Did) (x : Did) → k ≤ mostActors → x ≡ didAs l m → Holds (formed.DidFormed (base .limits) k) m → LinkFine k l
+    → LinkFine k (x .link)
 kept k l (done h) x b e f w =
     let z = f .value h refl in
     rw e (record { durable = durable-kept k (h .link .durable) b (formed.is-durable (base .limits) k (h .link .durable) (z .durable)); state≤ = z .state≤ })
@@ -38,11 +39,15 @@ module _ (k : ℕ) (b : k ≤ mostActors) (i : Id) (t : Table) (ok : tableOk t �
   tables : all ruleOk (rulesOf t) ≡ true
   tables = sound-rules (rulesOf t) (table-is t ok .good)
 
-  pub start-kept : (s : Stored) → storedFine k s ≡ true → x ≡ didAs (startLink s) (rules.onStart (base .limits) i (rulesOf t) (storedView s)) → LinkFine k (x .link)
+  pub start-kept : (s : Stored) → storedFine k s ≡ true → x ≡ didAs (startLink s) (rules.onStart (base .limits) i (rulesOf t) (storedView s))
+      → LinkFine k (x .link)
   start-kept s h e =
       let f = formed.stored-formed (base .limits) k (storedView s) (stored-formed k s h) in
       kept k (startLink s) _ x b e (formed.start-formed (base .limits) k i (rulesOf t) tables (storedView s) f)
-      (record { durable = durable-kept k (rules.durableOf (storedView s)) b (formed.is-durable (base .limits) k (rules.durableOf (storedView s)) f); state≤ = lit≤ tt })
+      (record {
+        durable = durable-kept k (rules.durableOf (storedView s)) b (formed.is-durable (base .limits) k (rules.durableOf (storedView s)) f);
+        state≤ = lit≤ tt;
+      })
 
   module _ (l : Link) (w : LinkFine k l) where
     part : formed.DurableFormed (base .limits) k (durableView (l .durable))

@@ -1,4 +1,5 @@
--- Nothing is lost by a Save without content: every Save of a handler saves the durable part of the answered link.
+-- Nothing is lost by a Save without content: every Save of a handler saves the durable part of the answered link, since a Save comes
+-- after all that changes it.
 -- Assumes nothing.
 use Prim.Native.Nat.{ℕ}
 use mathlib.Core.Path.{_≡_, refl, ap, ap₂, _∙_}
@@ -70,11 +71,14 @@ module _ (c : Limits) (i : Id) where
   process-alike d (inner.SetTimer t ∷ os) = holds-bind _ _ (process-alike d os) (λ o z. holds-done (λ e. alike-set e t _ (z e)))
   process-alike d (inner.CancelTimer t ∷ os) = holds-bind _ _ (process-alike d os) (λ o z. holds-done (λ e. alike-cancel e t _ (z e)))
   process-alike d (inner.Save v ∷ os) = process-alike (rules.withInner v d) os
-  process-alike d (inner.Send r p ∷ os) = holds-guard _ _ _ (λ a. holds-guard _ _ _ (λ b. holds-bind _ _ (process-alike (rules.posting r p d) os) (λ o z. holds-done (λ e. alike-send e r _ _ (z e)))))
+  process-alike d (inner.Send r p ∷ os) =
+      holds-guard _ _ _ (λ a. holds-guard _ _ _
+      (λ b. holds-bind _ _ (process-alike (rules.posting r p d) os) (λ o z. holds-done (λ e. alike-send e r _ _ (z e)))))
 
   output-alike : (d : rules.Durable) (os : List InnerCommand) → Holds (λ o. Alike (o .durable) (o .commands)) (rules.output c i d os)
   unfolding rules.output rules.thenSave choose
-  output-alike d os = holds-bind _ _ (process-alike d os) (λ o z. holds-done (alike-append (o .durable) _ _ (z (o .durable)) (last (o .durable) (any rules.durably os))))
+  output-alike d os =
+      holds-bind _ _ (process-alike d os) (λ o z. holds-done (alike-append (o .durable) _ _ (z (o .durable)) (last (o .durable) (any rules.durably os))))
     where
       last : (e : rules.Durable) (b : Bool) → Alike e (choose b (rules.Save e ∷ []) [])
       last e true = alike-save e
@@ -99,7 +103,8 @@ module _ (c : Limits) (i : Id) where
 -- So the answered struct tells the commands of the rules, with their content.
 pub told-back : (l : Link) (h : rules.Did) → Alike (h .link .durable) (h .commands) → toldBy (didAs l (done h)) ≡ h .commands
 told-back l h a =
-    ap₂ (λ (d : rules.Durable) (k : List LinkCommand). map (commandView d) k) (durable-back (h .link .durable)) (commands-back (map commandAs (h .commands))) ∙ a .same
+    ap₂ (λ (d : rules.Durable) (k : List LinkCommand). map (commandView d) k) (durable-back (h .link .durable)) (commands-back (map commandAs (h .commands)))
+    ∙ a .same
 
 pub link-back : (l : rules.Link) → linkView (linkAs l) ≡ l
 link-back l = let e = durable-back (l .durable) in λ i. record { durable = e i; state = l .state }

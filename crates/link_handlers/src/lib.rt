@@ -157,7 +157,9 @@ fn ack_only(l: Link, s: Id, n: Number) -> Did
 // Message n of s is taken: its Ack first, the output, and the durable part saved.
 fn take_message(l: Link, s: Id, n: Number, r: Reaction) -> Did
     requires { ⌜ Whole (l .durable) × (s .0 < mostActors) × (r .used ≤ mostCommands) ⌝ }
-    ensures { λ x. ⌜ ((i : Id) (p : Payload) → x ≡ didAs l (bind (rules.output (base .limits) i (rules.withTaken s n (durableView (l .durable))) (replyOf r .out)) (rules.takenBy i (linkView l) s n p (replyOf r)))) ⌝ }
+    ensures { λ x. ⌜ ((i : Id) (p : Payload) → x ≡ didAs l
+        (bind (rules.output (base .limits) i (rules.withTaken s n (durableView (l .durable))) (replyOf r .out))
+        (rules.takenBy i (linkView l) s n p (replyOf r)))) ⌝ }
 {
     let d = l.durable;
     let t = take_number(d, s, n);
@@ -267,7 +269,8 @@ fn resend(l: Link) -> Did
 // A user timer ran out, and the inner actor gave r. Its new state is thrown away.
 fn timed(l: Link, r: Reaction) -> Did
     requires { ⌜ Whole (l .durable) × (r .used ≤ mostCommands) ⌝ }
-    ensures { λ x. ⌜ ((i : Id) → x ≡ didAs l (bind (rules.output (base .limits) i (durableView (l .durable)) (replyOf r .out)) (rules.timedBy (linkView l)))) ⌝ }
+    ensures { λ x. ⌜ ((i : Id) → x ≡ didAs l
+        (bind (rules.output (base .limits) i (durableView (l .durable)) (replyOf r .out)) (rules.timedBy (linkView l)))) ⌝ }
 {
     let d = l.durable;
     let none = no_commands();

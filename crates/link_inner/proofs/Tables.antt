@@ -1,4 +1,4 @@
--- The test of a table, part by part.
+-- The test of a table, part by part. It is a conjunction, so that the code may test its parts one by one.
 -- Assumes nothing.
 use Prim.Native.Nat.{ℕ, _≤_}
 use mathlib.Core.Path.{_≡_, refl, sym, ap, _∙_}
@@ -35,9 +35,17 @@ unfolding choose unused
 slots-free r from n = take-whole unused (r .commands) mostCommands from n
 
 -- A rule's numbers, and the other parts of its test.
+abbrev pub startTest : Rule → Bool
+startTest r = leb 2 (r .event) || (eqb (r .state) 0 && r .touched)
+
+abbrev pub keepTest : Rule → Bool
+keepTest r = r .touched || eqb (r .next) (r .state)
+
+abbrev pub usedTest : Rule → Bool
+usedTest r = all (commandOk (r .event)) (commandsOf r)
+
 abbrev others : Rule → List Bool
-others r = (leb 2 (r .event) || (eqb (r .state) 0 && r .touched)) ∷ (r .touched || eqb (r .next) (r .state))
-    ∷ all (commandOk (r .event)) (commandsOf r) ∷ all unused (drop (r .used) (r .commands)) ∷ []
+others r = startTest r ∷ keepTest r ∷ usedTest r ∷ all unused (drop (r .used) (r .commands)) ∷ []
 
 pub rule-parts : (r : Rule) → ruleOk r ≡ every (ranges r ∷ others r)
 unfolding ruleOk ranges every

@@ -1,4 +1,4 @@
--- No second answer fits what is promised of an output.
+-- No second answer fits what is promised of an output: the promise is an equation, and holds for actor 0 too.
 -- Assumes nothing.
 use mathlib.Core.Path.{_≡_}
 use Rattle.lists.proofs.Single.{one-answer}

@@ -1,4 +1,5 @@
--- Inner output, command by command; and the commands that the struct holds.
+-- Inner output, command by command; and the commands that the struct holds. One command and then the others give what all of them
+-- give, so that the code may go through them in a loop.
 -- Assumes nothing.
 use Prim.Native.Nat.{ℕ, suc, _+_, _≤_, _<_, zero-le}
 use native.Mathlib.Omega.{arith}
@@ -45,7 +46,9 @@ use Rattle.link_output.specs.Views.{slot, commandsIn, commandsOf, comman
 -- ---- the commands that the struct holds
 pub commands-back : (l : List LinkCommand) → commandsIn (commandsOf l) ≡ l
 unfolding pad
-commands-back l = ap (map (λ (s : CommandSlot). s .command)) (take-at (map slot l) _ (length l) (length-map l slot)) ∙ map-back slot (λ (s : CommandSlot). s .command) (λ c. refl) l
+commands-back l =
+    ap (map (λ (s : CommandSlot). s .command)) (take-at (map slot l) _ (length l) (length-map l slot))
+    ∙ map-back slot (λ (s : CommandSlot). s .command) (λ c. refl) l
 
 pub commands-same : (cs : Commands) (l : List LinkCommand) → cs ≡ commandsOf l → cs ≡ commandsOf (commandsIn cs)
 commands-same cs l e = e ∙ ap commandsOf (sym (ap commandsIn e ∙ commands-back l))
@@ -66,7 +69,8 @@ pushed cs c e h =
     λ i. record { list = a i; used = b i }
 
 -- one more command after those of a list
-pub then-one : (cs : Commands) (l : List LinkCommand) (c : LinkCommand) (z : Commands) → cs ≡ commandsOf l → z ≡ commandsOf (commandsIn cs ++ c ∷ []) → z ≡ commandsOf (l ++ c ∷ [])
+pub then-one : (cs : Commands) (l : List LinkCommand) (c : LinkCommand) (z : Commands) → cs ≡ commandsOf l → z ≡ commandsOf (commandsIn cs ++ c ∷ [])
+    → z ≡ commandsOf (l ++ c ∷ [])
 then-one cs l c z e f = f ∙ ap (λ (x : List LinkCommand). commandsOf (x ++ c ∷ [])) (ap commandsIn e ∙ commands-back l)
 
 -- no command more
@@ -84,11 +88,13 @@ pub went : (cs : List LinkCommand) (m : Outcome rules.Output) (y : Output) → y
 went cs (done o) y e g = record { out = o; is = refl; durable = ap (λ (x : Output). x .durable) e; commands = ap (λ (x : Output). x .commands) e }
 went cs (refused n) y e g = absurd (false≢true (sym (ap (λ (x : Output). x .going) e) ∙ g))
 
-pub halted : (cs : List LinkCommand) (m : Outcome rules.Output) (y : Output) → y ≡ outputAs cs m → y .going ≡ false → (n : ℕ) × (m ≡ refused n) × (y .answer ≡ answerOf n)
+pub halted : (cs : List LinkCommand) (m : Outcome rules.Output) (y : Output) → y ≡ outputAs cs m → y .going ≡ false
+    → (n : ℕ) × (m ≡ refused n) × (y .answer ≡ answerOf n)
 halted cs (done o) y e g = absurd (true≢false (sym (ap (λ (x : Output). x .going) e) ∙ g))
 halted cs (refused n) y e g = (n, refl, ap (λ (x : Output). x .answer) e)
 
-pub output-same : (y : Output) (cs : List LinkCommand) (o : rules.Output) → y .going ≡ true → y .answer ≡ answerOf 0 → y .durable ≡ durableAs (o .durable) → y .commands ≡ commandsOf (cs ++ map commandAs (o .commands)) → y ≡ outputAs cs (done o)
+pub output-same : (y : Output) (cs : List LinkCommand) (o : rules.Output) → y .going ≡ true → y .answer ≡ answerOf 0 → y .durable ≡ durableAs (o .durable)
+    → y .commands ≡ commandsOf (cs ++ map commandAs (o .commands)) → y ≡ outputAs cs (done o)
 output-same y cs o a b c d = λ i. record { going = a i; answer = b i; durable = c i; commands = d i }
 
 -- ---- a durable part that is laid out
@@ -213,17 +219,24 @@ module _ (c : Limits) (i : Id) where
   -- ---- an inner Send: 6, 7, or one more message
   module _ (d : rules.Durable) (r : Id) (p : Payload) where
     pub send-stops : (cs : List LinkCommand) (x : Answer) → sendRefusal (ltb (d .next .0) (c .numbers)) (ltb (length (d .pending)) (c .pending)) ≡ Because x
-        → _≡_ {A = Output} (record { going = false; answer = x; durable = durableAs rules.fresh; commands = commandsOf [] }) (outputAs cs (rules.process c i d (inner.Send r p ∷ [])))
+        → _≡_ {A = Output} (record { going = false; answer = x; durable = durableAs rules.fresh; commands = commandsOf [] })
+        (outputAs cs (rules.process c i d (inner.Send r p ∷ [])))
     unfolding rules.process
     send-stops cs x e = refusal-stops cs _ _ x _ e
 
     pub send-goes : d .next .0 < c .numbers → length (d .pending) < c .pending
-        → rules.process c i d (inner.Send r p ∷ []) ≡ done (record { durable = rules.posting r p d; commands = rules.Send r (Deliver (d .next) p) ∷ []; events = rules.Sent i (rules.numbered d r p) ∷ [] })
+        → rules.process c i d (inner.Send r p ∷ [])
+        ≡ done (record {
+          durable = rules.posting r p d;
+          commands = rules.Send r (Deliver (d .next) p) ∷ [];
+          events = rules.Sent i (rules.numbered d r p) ∷ [];
+        })
     unfolding rules.process rules.also guard bind
     send-goes h k = rw (lt-ltb (d .next .0) (c .numbers) h, lt-ltb (length (d .pending)) (c .pending) k)
 
   -- ---- a turn of the loop
-  module _ (cs : List LinkCommand) (d : rules.Durable) (x : InnerCommand) (os : List InnerCommand) (y : Output) (e : y ≡ outputAs cs (rules.process c i d (x ∷ []))) where
+  module _ (cs : List LinkCommand) (d : rules.Durable) (x : InnerCommand) (os : List InnerCommand) (y : Output)
+      (e : y ≡ outputAs cs (rules.process c i d (x ∷ []))) where
     pub turn-stops : y .going ≡ false → y ≡ outputAs cs (rules.process c i d (x ∷ os))
     unfolding bind
     turn-stops g =
@@ -238,7 +251,8 @@ module _ (c : Limits) (i : Id) where
         λ j. record { going = true; answer = answerOf 0; durable = durableAs (p .durable); commands = commandsOf (f j) }
     join-as o (refused n) = refl
 
-    pub turn-goes : y .going ≡ true → outputAs cs (rules.process c i d (x ∷ os)) ≡ outputAs (commandsIn (y .commands)) (rules.process c i (durableView (y .durable)) os)
+    pub turn-goes : y .going ≡ true → outputAs cs (rules.process c i d (x ∷ os))
+        ≡ outputAs (commandsIn (y .commands)) (rules.process c i (durableView (y .durable)) os)
     unfolding bind rest
     turn-goes g =
         let w = went cs (rules.process c i d (x ∷ [])) y e g in
@@ -250,7 +264,8 @@ module _ (c : Limits) (i : Id) where
 
 -- at the end of the loop
 pub process-end : (c : Limits) (i : Id) (d : Durable) (cs : Commands) → Whole d → cs ≡ commandsOf (commandsIn cs)
-    → _≡_ {A = Output} (record { going = true; answer = answerOf 0; durable = d; commands = cs }) (outputAs (commandsIn cs) (rules.process c i (durableView d) []))
+    → _≡_ {A = Output} (record { going = true; answer = answerOf 0; durable = d; commands = cs })
+    (outputAs (commandsIn cs) (rules.process c i (durableView d) []))
 unfolding rules.process
 process-end c i d cs w e = output-is true (answerOf 0) d _ cs _ (w .same) (unsent cs e)
 
@@ -291,7 +306,8 @@ ready-within i cs m y n k h e u f g =
     record { whole = z .whole; same = z .same; few = omega arith }
 
 -- ---- the output saved
-module _ (c : Limits) (i : Id) (cs : List LinkCommand) (d : rules.Durable) (os : List InnerCommand) (y : Output) (e : y ≡ outputAs cs (rules.process c i d os)) where
+module _ (c : Limits) (i : Id) (cs : List LinkCommand) (d : rules.Durable) (os : List InnerCommand) (y : Output)
+    (e : y ≡ outputAs cs (rules.process c i d os)) where
   pub output-stops : y .going ≡ false → y ≡ outputAs cs (rules.output c i d os)
   unfolding rules.output bind
   output-stops g =
@@ -299,7 +315,11 @@ module _ (c : Limits) (i : Id) (cs : List LinkCommand) (d : rules.Durable) (os :
       e ∙ ap (outputAs cs) (h .1) ∙ ap (outputAs cs) (sym (ap (λ (m : Outcome rules.Output). bind m (rules.thenSave (any rules.durably os))) (h .1)))
 
   output-done : (w : Went cs (rules.process c i d os) y) (b : Bool) → any rules.durably os ≡ b
-      → rules.output c i d os ≡ done (record { durable = w .out .durable; commands = w .out .commands ++ choose b (rules.Save (w .out .durable) ∷ []) []; events = w .out .events })
+      → rules.output c i d os ≡ done (record {
+        durable = w .out .durable;
+        commands = w .out .commands ++ choose b (rules.Save (w .out .durable) ∷ []) [];
+        events = w .out .events;
+      })
   unfolding rules.output rules.thenSave bind
   output-done w b f = rw (w .is, f)
 
@@ -311,7 +331,8 @@ module _ (c : Limits) (i : Id) (cs : List LinkCommand) (d : rules.Durable) (os :
       let l = map commandAs (w .out .commands) in
       let a : z ≡ commandsOf (cs ++ map commandAs (w .out .commands ++ rules.Save (w .out .durable) ∷ [])) =
       then-one (y .commands) (cs ++ l) Save z (w .commands) q
-      ∙ ap commandsOf (append-assoc cs l (Save ∷ []) ∙ ap (λ (x : List LinkCommand). cs ++ x) (sym (map-append commandAs (w .out .commands) (rules.Save (w .out .durable) ∷ [])))) in
+      ∙ ap commandsOf (append-assoc cs l (Save ∷ [])
+      ∙ ap (λ (x : List LinkCommand). cs ++ x) (sym (map-append commandAs (w .out .commands) (rules.Save (w .out .durable) ∷ [])))) in
       output-is true (answerOf 0) (y .durable) _ z _ (w .durable) a ∙ ap (outputAs cs) (sym (output-done w true f))
 
   pub output-plain : y .going ≡ true → any rules.durably os ≡ false → y ≡ outputAs cs (rules.output c i d os)

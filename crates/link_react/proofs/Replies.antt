@@ -1,4 +1,5 @@
--- The first rule that matches, by its place; a rule's commands, told one by one.
+-- The first rule that matches, by its place; a rule's commands, told one by one. The reply of the rules looks at the head of the list
+-- of rules, and how many lead without a match counts the same.
 -- Assumes nothing.
 use Prim.Native.Nat.{ℕ, suc, _+_, _≤_, _<_, zero-le}
 use native.Mathlib.Nat.{not-suc-le-zero, le-of-suc-le-suc}
@@ -51,7 +52,8 @@ module _ (s : Id) (v : ℕ) where
   unfolding pad
   told-none cs = refl
 
-  pub told-next : (cs : List Slot) (i : ℕ) (d : Slot) (out : List InnerSlot) → i < length cs → i < mostCommands → out ≡ tellings (take i cs) → set out i (slot (told s v (getD cs i d .command))) ≡ tellings (take (i + 1) cs)
+  pub told-next : (cs : List Slot) (i : ℕ) (d : Slot) (out : List InnerSlot) → i < length cs → i < mostCommands → out ≡ tellings (take i cs)
+      → set out i (slot (told s v (getD cs i d .command))) ≡ tellings (take (i + 1) cs)
   unfolding told-slots
   told-next cs i d out h k e =
       let n : length (told-slots (take i cs)) ≡ i = told-length (take i cs) ∙ length-take-le i cs (omega arith) in
@@ -59,7 +61,8 @@ module _ (s : Id) (v : ℕ) where
       ap (λ (l : List InnerSlot). set l i x) e
       ∙ ap (λ (j : ℕ). set (pad mostCommands (slot (SetTimer 0)) (told-slots (take i cs))) j x) (sym n)
       ∙ append-pad mostCommands (told-slots (take i cs)) x (slot (SetTimer 0)) (omega arith)
-      ∙ ap (pad mostCommands (slot (SetTimer 0))) (sym (told-snoc (take i cs) (getD cs i d)) ∙ ap told-slots (sym (take-suc cs i d h) ∙ ap (λ (j : ℕ). take j cs) (sym (add-one i))))
+      ∙ ap (pad mostCommands (slot (SetTimer 0)))
+      (sym (told-snoc (take i cs) (getD cs i d)) ∙ ap told-slots (sym (take-suc cs i d h) ∙ ap (λ (j : ℕ). take j cs) (sym (add-one i))))
 
 pub told-all : (s : Id) (v : ℕ) (r : Rule) → tellings s v (take (r .used) (r .commands)) ≡ slotsOf (map (told s v) (commandsOf r))
 unfolding commandsOf
@@ -69,7 +72,9 @@ pub reaction : (s : Id) (v : ℕ) (r : Rule) (out : List InnerSlot) → r .used 
     → _≡_ {A = Reaction} (record { touched = r .touched; state = r .next; commands = out; used = r .used }) (reactionOf (decided s v r))
 unfolding decided commandsOf
 reaction s v r out k o =
-    let m : r .used ≡ length (map (told s v) (commandsOf r)) = sym (length-map (commandsOf r) (told s v) ∙ length-map (take (r .used) (r .commands)) (λ (x : Slot). x .command) ∙ length-take-le (r .used) (r .commands) k) in
+    let m : r .used ≡ length (map (told s v) (commandsOf r)) =
+    sym (length-map (commandsOf r) (told s v) ∙ length-map (take (r .used) (r .commands)) (λ (x : Slot). x .command)
+    ∙ length-take-le (r .used) (r .commands) k) in
     λ i. record { touched = r .touched; state = r .next; commands = o i; used = m i }
 
 -- ---- the first rule that matches
@@ -82,7 +87,8 @@ module _ (ev st : ℕ) (s : Id) (v : ℕ) (d : Rule) where
       at : Bool → ℕ
       at b = elim (not b) [ true ↦ suc (lead (mismatches ev st v) rs) | false ↦ 0 ]
 
-      go : (b : Bool) → at b < suc (length rs) → (lead (mismatches ev st v) rs < length rs → reply rs ev st s v ≡ decided s v (getD rs (lead (mismatches ev st v) rs) d))
+      go : (b : Bool) → at b < suc (length rs)
+          → (lead (mismatches ev st v) rs < length rs → reply rs ev st s v ≡ decided s v (getD rs (lead (mismatches ev st v) rs) d))
           → choose b (decided s v r) (reply rs ev st s v) ≡ decided s v (getD (r ∷ rs) (at b) d)
       go true h f = refl
       go false h f = f (le-of-suc-le-suc h)
@@ -98,17 +104,20 @@ module _ (ev st : ℕ) (s : Id) (v : ℕ) (d : Rule) where
       none : Reply
       none = record { touched = false; state = st; out = [] }
 
-      go : (b : Bool) → suc (length rs) ≤ at b → (length rs ≤ lead (mismatches ev st v) rs → reply rs ev st s v ≡ none) → choose b (decided s v r) (reply rs ev st s v) ≡ none
+      go : (b : Bool) → suc (length rs) ≤ at b → (length rs ≤ lead (mismatches ev st v) rs → reply rs ev st s v ≡ none)
+          → choose b (decided s v r) (reply rs ev st s v) ≡ none
       go true h f = absurd (not-suc-le-zero h)
       go false h f = f (le-of-suc-le-suc h)
 
   -- as the struct
-  pub reacts : (rs : List Rule) (at : ℕ) (x : Reaction) → at ≡ lead (mismatches ev st v) rs → at < length rs → x ≡ reactionOf (decided s v (getD rs at d)) → x ≡ reactionOf (reply rs ev st s v)
+  pub reacts : (rs : List Rule) (at : ℕ) (x : Reaction) → at ≡ lead (mismatches ev st v) rs → at < length rs → x ≡ reactionOf (decided s v (getD rs at d))
+      → x ≡ reactionOf (reply rs ev st s v)
   reacts rs at x e h g = let w : lead (mismatches ev st v) rs < length rs = omega arith in
       g ∙ ap reactionOf (ap (λ (j : ℕ). decided s v (getD rs j d)) e ∙ sym (reply-found rs w))
 
   pub ignores : (rs : List Rule) (at : ℕ) → at ≡ lead (mismatches ev st v) rs → length rs ≤ at
-      → _≡_ {A = Reaction} (record { touched = false; state = st; commands = replicate mostCommands (slot (SetTimer 0)); used = 0 }) (reactionOf (reply rs ev st s v))
+      → _≡_ {A = Reaction} (record { touched = false; state = st; commands = replicate mostCommands (slot (SetTimer 0)); used = 0 })
+      (reactionOf (reply rs ev st s v))
   unfolding pad
   ignores rs at e h = ap reactionOf (sym (reply-none rs (omega arith)))
 
@@ -130,7 +139,8 @@ unfolding reply choose all
 reply-few [] ev st s v e = zero-le
 reply-few (r ∷ rs) ev st s v e = let a = and-both (ruleOk r) _ e in go (matches ev st v r) (decided-few s v r (a .0)) (reply-few rs ev st s v (a .1))
   where
-    go : (b : Bool) → length (decided s v r .out) ≤ mostCommands → length (reply rs ev st s v .out) ≤ mostCommands → length (choose b (decided s v r) (reply rs ev st s v) .out) ≤ mostCommands
+    go : (b : Bool) → length (decided s v r .out) ≤ mostCommands → length (reply rs ev st s v .out) ≤ mostCommands
+        → length (choose b (decided s v r) (reply rs ev st s v) .out) ≤ mostCommands
     go true h k = h
     go false h k = k
 
@@ -144,5 +154,6 @@ unfolding pad
 reply-back y h =
     let n = length-map (y .out) slot in
     let e : take (length (y .out)) (slotsOf (y .out)) ≡ map slot (y .out) = take-at (map slot (y .out)) _ (length (y .out)) n in
-    let f : map (λ (s : InnerSlot). s .command) (take (length (y .out)) (slotsOf (y .out))) ≡ y .out = ap (map (λ (s : InnerSlot). s .command)) e ∙ map-back slot (λ (s : InnerSlot). s .command) (λ c. refl) (y .out) in
+    let f : map (λ (s : InnerSlot). s .command) (take (length (y .out)) (slotsOf (y .out))) ≡ y .out = ap (map (λ (s : InnerSlot). s .command)) e
+    ∙ map-back slot (λ (s : InnerSlot). s .command) (λ c. refl) (y .out) in
     λ i. record { touched = y .touched; state = y .state; out = f i }

@@ -41,7 +41,8 @@ found-up d k z =
     ap (λ (b : Bool). choose b (Timer (suc k + z)) Nothing) (sym (leb·suc-suc (suc z) d))
     ∙ ap (λ (n : ℕ). choose (ltb (suc z) (suc d)) (Timer n) Nothing) (omega arith)
 
-first-digit : (d f k b z : ℕ) (ts : List ℕ) → b < 2 → f ≤ k → firstFrom f ts ≡ foundAt d (suc k) z → firstFrom f (choose (eqb b 1) (k ∷ []) [] ++ ts) ≡ foundAt (suc d) k (under b z)
+first-digit : (d f k b z : ℕ) (ts : List ℕ) → b < 2 → f ≤ k → firstFrom f ts ≡ foundAt d (suc k) z
+    → firstFrom f (choose (eqb b 1) (k ∷ []) [] ++ ts) ≡ foundAt (suc d) k (under b z)
 unfolding choose firstFrom
 first-digit d f k zero z ts l h e = e ∙ found-up d k z
 first-digit d f k (suc zero) z ts l h e = rw (le-leb f k h, lt-ltb 0 (suc d) (omega arith)) (ap Timer (sym (add-zero k)))
@@ -74,7 +75,8 @@ first-from (suc d) k x (suc j) f e =
     ∙ ap (foundAt (suc d) k) (sym (zeros-shifted d (x / 2 ^ suc j) j))
 
 -- The trailing zeros of the word without the timers below f are the timer found, where they are fewer than the bits.
-pub first-zeros : (x f : ℕ) → firstFrom f (listed x) ≡ choose (ltb (trailingZeros bits (x / 2 ^ f * 2 ^ f)) bits) (Timer (trailingZeros bits (x / 2 ^ f * 2 ^ f))) Nothing
+pub first-zeros : (x f : ℕ) → firstFrom f (listed x)
+    ≡ choose (ltb (trailingZeros bits (x / 2 ^ f * 2 ^ f)) bits) (Timer (trailingZeros bits (x / 2 ^ f * 2 ^ f))) Nothing
 unfolding listed
 first-zeros x f =
     first-from bits 0 x f f (sym (zero-add f))

@@ -200,7 +200,8 @@ value-half k hi (y ∷ ys) a =
     omega arith
 
 -- The list from the place k on, by the lowest digit and the rest of the word.
-digits : (d k v w : ℕ) (ts : List ℕ) → listedFrom d (suc k) w ≡ ts → v / 2 ≡ w → (v % 2 ≡ 1 → listedFrom (suc d) k v ≡ k ∷ ts) × (v % 2 ≡ 0 → listedFrom (suc d) k v ≡ ts)
+digits : (d k v w : ℕ) (ts : List ℕ) → listedFrom d (suc k) w ≡ ts → v / 2 ≡ w
+    → (v % 2 ≡ 1 → listedFrom (suc d) k v ≡ k ∷ ts) × (v % 2 ≡ 0 → listedFrom (suc d) k v ≡ ts)
 unfolding listedFrom choose
 digits d k v w ts e h = (λ one. rw (one, h, e), λ none. rw (none, h, e))
 

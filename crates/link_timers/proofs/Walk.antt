@@ -99,7 +99,9 @@ walked-rest : (n f x : ℕ) → length (restFrom f (listed x)) ≤ n → walked 
 walked-rest zero f x h = none-left (restFrom f (listed x)) h
 walked-rest (suc n) f x h = by-found (firstFrom f (listed x)) refl (λ y. walked-rest n (y + 1) x) ∙ sym (walk-step x f)
   where
-    by-found : (o : Found) → firstFrom f (listed x) ≡ o → ((y : ℕ) → length (restFrom (y + 1) (listed x)) ≤ n → walked n (y + 1) (listed x) ≡ restFrom (y + 1) (listed x)) → andOn o (λ g. walked n g (listed x)) ≡ andOn o (λ g. restFrom g (listed x))
+    by-found : (o : Found) → firstFrom f (listed x) ≡ o
+        → ((y : ℕ) → length (restFrom (y + 1) (listed x)) ≤ n → walked n (y + 1) (listed x) ≡ restFrom (y + 1) (listed x))
+        → andOn o (λ g. walked n g (listed x)) ≡ andOn o (λ g. restFrom g (listed x))
     by-found Nothing e rest = refl
     by-found (Timer y) e rest = let l = ap length (walk-found x f y e) in ap (λ (ts : List ℕ). y ∷ ts) (rest y (omega arith))
 

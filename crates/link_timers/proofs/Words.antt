@@ -5,7 +5,7 @@ use native.Mathlib.Nat.{one-mul, mod-eq-of-lt, add-comm, pow-suc}
 use native.Mathlib.Decide.{decLt}
 use native.Mathlib.Omega.{arith}
 use mathlib.Core.Path.{_≡_, refl, sym, ap, ap₂, _∙_, subst}
-use mathlib.Core.Bool.{Bool, true, false, _&&_, _||_, true≢false, false≢true}
+use mathlib.Core.Bool.{Bool, true, false, _&&_, _||_, and-false, true≢false, false≢true}
 use mathlib.Core.List.{List, [], _∷_}
 use lib.Arith.{lt-one, digits-mod}
 use lib.Bits.{bitAnd, bitOr, and-step, and-high, or-disjoint}
@@ -124,7 +124,8 @@ set-word x t h l e =
     ∙ ap (λ (n : ℕ). 2 ^ t + n) (sym (word-listed x h))
     ∙ sym (word-place t (listed x) e))
 
-cancel-word : (x t : ℕ) → x < 2 ^ bits → t < bits → isSet t (listed x) ≡ true → bitAnd x (4294967295 - 1 * 2 ^ t % 4294967296) ≡ wordOf (cancelTimer t (listed x))
+cancel-word : (x t : ℕ) → x < 2 ^ bits → t < bits → isSet t (listed x) ≡ true
+    → bitAnd x (4294967295 - 1 * 2 ^ t % 4294967296) ≡ wordOf (cancelTimer t (listed x))
 unfolding cancelTimer isSet choose
 cancel-word x t h l e =
     let one-bit : x / 2 ^ t % 2 ≡ 1 = eqb-true (x / 2 ^ t % 2) 1 (sym (digit-set x t l) ∙ e) in
@@ -153,10 +154,6 @@ set-same x t h e = sym (ap₂ answer e (ap timersOf (set-unchanged t (listed (x 
 pub cancel-same : (x : Timers) (t : ℕ) → x .0 < 2 ^ bits → cancelChanges t (listed (x .0)) ≡ false → answer false x ≡ cancelOf x t
 cancel-same x t h e = sym (ap₂ answer e (ap timersOf (cancel-unchanged t (listed (x .0)) e) ∙ timers-listed x h))
 
-and-false : (b : Bool) → (b && false) ≡ false
-and-false true = refl
-and-false false = refl
-
 -- A timer that is set already is not set anew, and one that is not set is not cancelled.
 pub set-again : (t : ℕ) (ts : List ℕ) → isSet t ts ≡ true → setChanges t ts ≡ false
 unfolding setChanges
@@ -175,8 +172,10 @@ cancel-changes : (t : ℕ) (ts : List ℕ) → t < bits → isSet t ts ≡ true 
 unfolding cancelChanges
 cancel-changes t ts l e = rw (le-leb t network (omega arith), e)
 
-pub set-anew : (x : Timers) (t : ℕ) → x .0 < 2 ^ bits → t < bits → isSet t (listed (x .0)) ≡ false → answer true (record { 0 = bitOr (x .0) (1 * 2 ^ t % 4294967296) }) ≡ setOf x t
+pub set-anew : (x : Timers) (t : ℕ) → x .0 < 2 ^ bits → t < bits → isSet t (listed (x .0)) ≡ false
+    → answer true (record { 0 = bitOr (x .0) (1 * 2 ^ t % 4294967296) }) ≡ setOf x t
 set-anew x t h l e = ap₂ answer (sym (set-changes t (listed (x .0)) l e)) (λ i. record { 0 = set-word (x .0) t h l e i })
 
-pub cancel-set : (x : Timers) (t : ℕ) → x .0 < 2 ^ bits → t < bits → isSet t (listed (x .0)) ≡ true → answer true (record { 0 = bitAnd (x .0) (4294967295 - 1 * 2 ^ t % 4294967296) }) ≡ cancelOf x t
+pub cancel-set : (x : Timers) (t : ℕ) → x .0 < 2 ^ bits → t < bits → isSet t (listed (x .0)) ≡ true
+    → answer true (record { 0 = bitAnd (x .0) (4294967295 - 1 * 2 ^ t % 4294967296) }) ≡ cancelOf x t
 cancel-set x t h l e = ap₂ answer (sym (cancel-changes t (listed (x .0)) l e)) (λ i. record { 0 = cancel-word (x .0) t h l e i })

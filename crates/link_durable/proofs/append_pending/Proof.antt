@@ -1,3 +1,4 @@
+-- The first place that is not used takes the record, so that the array holds the list with the record at its end.
 use mathlib.Core.Path.{_≡_}
 use lib.ListN.{length}
 use Rattle.lists.proofs.Places.{length-mapped}

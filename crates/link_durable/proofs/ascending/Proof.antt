@@ -1,3 +1,4 @@
+-- Up to place i every record is below the next one. A pair that is not decides, and at the end every pair was seen.
 use Rattle.lists.proofs.Walks.{pairs-on}
 use borrow.Author.Needs.{needs}
 use borrow.Author.Tests.{lt-ltb, le-ltb}

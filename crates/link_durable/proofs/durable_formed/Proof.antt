@@ -85,7 +85,13 @@ returns-5 c =
     let b = c .before .before .before .before .before .before .before in
     let a = begun b .args in
     rw (formed _ _ (laid (begun b)))
-    (simp (low b, passed (c .before .before .before .before .before), climbs (c .before .before .before), le-leb (a .d .taken .used) (a .actors) (omega arith), and-true)
+    (simp (
+      low b,
+      passed (c .before .before .before .before .before),
+      climbs (c .before .before .before),
+      le-leb (a .d .taken .used) (a .actors) (omega arith),
+      and-true,
+    )
     (c .ends-in-one .ensures))
 
 pub durable-formed-spec : {M : Type 1} → statement M

@@ -1,3 +1,4 @@
+-- An empty list ends in anything. Any other ends in what stands at the last place that is used.
 use native.Mathlib.Omega.{arith}
 use mathlib.Core.Path.{_≡_}
 use lib.ListN.{length}

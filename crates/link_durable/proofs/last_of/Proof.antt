@@ -1,3 +1,4 @@
+-- A place beyond the count is zero, which is what the list says past its end. No array has a place for a higher source.
 use mathlib.Core.Path.{_≡_}
 use lib.ListN.{length}
 use Rattle.lists.proofs.Places.{length-mapped}

@@ -1,3 +1,4 @@
+-- Writing the array at the source's place writes the list there, and the list grows up to that place where it was shorter.
 use mathlib.Core.Path.{_≡_}
 use lib.ListN.{length}
 use Rattle.lists.proofs.Places.{length-mapped}

@@ -1,3 +1,4 @@
+-- There is room and a number is left, so the record goes to the end of the list and the next number is one more.
 use mathlib.Core.Path.{_≡_}
 use lib.ListN.{length}
 use Rattle.lists.proofs.Places.{length-mapped}

@@ -1,3 +1,4 @@
+-- Each turn moves one record down, and the array without place i is still the one without the first place. The last place becomes zero.
 use borrow.Author.Needs.{needs}
 use native.Mathlib.Omega.{arith}
 use Prim.Native.Nat.{_<_, _-_}

@@ -1,3 +1,4 @@
+-- Where the number is found, that place goes. Where it is not, the list without it is the list.
 use mathlib.Core.Path.{_≡_}
 use lib.ListN.{length}
 use Rattle.lists.proofs.Places.{length-mapped}
@@ -30,7 +31,8 @@ sub-t8 c = search needs
 returns : tie.Need-returns
 returns c =
     let a = c .before .before .before .before in
-    removed (a .args .p) (laid a) (a .args .n) (c .before .before .pending-place .result) (c .before .before .pending-place .ensures) (c .before .if1 .taken) (c .remove-at .result) (c .remove-at .ensures)
+    removed (a .args .p) (laid a) (a .args .n) (c .before .before .pending-place .result) (c .before .before .pending-place .ensures) (c .before .if1 .taken)
+    (c .remove-at .result) (c .remove-at .ensures)
 
 returns-2 : tie.Need-returns-2
 returns-2 c =

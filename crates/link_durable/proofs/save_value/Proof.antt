@@ -1,3 +1,4 @@
+-- Only the saved value changes. The other parts are what the lists of the old part say.
 use mathlib.Core.Path.{_≡_, refl}
 use lib.ListN.{length}
 use Rattle.lists.proofs.Places.{length-mapped}

@@ -1,3 +1,4 @@
+-- What is stored holds its own lists, since it is laid out. Where nothing is, the fresh part is the answer of the rules.
 use mathlib.Core.Path.{_≡_}
 use lib.ListN.{length}
 use Rattle.lists.proofs.Places.{length-mapped}

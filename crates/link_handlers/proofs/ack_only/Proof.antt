@@ -1,3 +1,4 @@
+-- The Ack is the one command, and the link is the one that came.
 use mathlib.Core.Path.{refl}
 use Rattle.answers.specs.Answers.{answerOf}
 use Rattle.rules.specs.Link.{acking}

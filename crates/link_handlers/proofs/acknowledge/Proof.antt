@@ -1,3 +1,4 @@
+-- The durable part is the one without the number, and the Save is the one command.
 use mathlib.Core.Path.{refl}
 use Rattle.answers.specs.Answers.{answerOf}
 use Rattle.rules.specs.Link.{ackedBy}

@@ -1,3 +1,4 @@
+-- By the two kinds of message, on a link that is laid out.
 use Rattle.types.specs.Capacities.{mostPending, mostActors}
 use Rattle.link_output.specs.Views.{Whole}
 use mathlib.Core.Path.{_≡_}

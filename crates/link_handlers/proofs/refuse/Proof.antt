@@ -1,3 +1,4 @@
+-- There is no command, and the rest is as it came.
 use mathlib.Core.Path.{refl}
 use Rattle.link_handlers.proofs.Handlers.{did-is}
 use borrow.Author.Needs.{needs}

@@ -1,3 +1,4 @@
+-- After i turns the list has set Network and the first i records again. There is room: one place more than records that can be pending.
 use borrow.Author.Needs.{needs}
 use native.Mathlib.Omega.{arith}
 use Prim.Native.Nat.{ℕ, _≤_, _-_}

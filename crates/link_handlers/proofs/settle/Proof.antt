@@ -1,3 +1,4 @@
+-- A touched reply is not ignored. An untouched one is ignored where the count of its commands is zero.
 use borrow.Author.Needs.{needs}
 use native.Mathlib.Omega.{arith}
 use mathlib.Core.Path.{_≡_}

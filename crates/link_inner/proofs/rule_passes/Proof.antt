@@ -2,15 +2,34 @@
 use borrow.Author.Needs.{needs}
 use borrow.Author.Tests.{not-true, not-false}
 use mathlib.Core.Path.{_≡_, sym, _∙_}
-use mathlib.Core.Bool.{and-true}
+use mathlib.Core.Bool.{true, and-true}
 use lib.ListN.{length}
 use Rattle.lists.specs.Lists.{choose, every}
 use Rattle.lists.proofs.Places.{length-mapped}
 use Rattle.types.specs.Capacities.{mostCommands}
-use Rattle.link_inner.proofs.Tables.{slots-used, slots-free, rule-parts, ranges-used}
+use Rattle.types.specs.declared.Rule.{Rule}
+use Rattle.link_inner.specs.Views.{ranges}
+use Rattle.link_inner.proofs.Tables.{startTest, keepTest, usedTest, slots-used, slots-free, rule-parts, ranges-used}
 use Rattle.link_inner.proofs.rule_passes.Statement.{statement}
 use Rattle.link_inner.proofs.rule_passes.Tie as tie
 
+-- ---- what holds after each test that passed
+abbrev rule : tie.Else1 → Rule
+rule c = c .before .args .r
+
+ranged : (c : tie.Else2) → ranges (rule (c .before .before)) ≡ true
+ranged c = sym (c .before .ranges-ok .ensures) ∙ not-false (c .before .ranges-ok .result) (c .if2 .left)
+
+started : (c : tie.Else3) → startTest (rule (c .before .before .before .before)) ≡ true
+started c = sym (c .before .start-ok .ensures) ∙ not-false (c .before .start-ok .result) (c .if3 .left)
+
+kept : (c : tie.Else4) → keepTest (rule (c .before .before .before .before .before .before)) ≡ true
+kept c = sym (c .before .keeps-ok .ensures) ∙ not-false (c .before .keeps-ok .result) (c .if4 .left)
+
+used : (c : tie.After-slots-pass) → usedTest (rule (c .before .before .before .before .before .before .before)) ≡ c .slots-pass .result
+used c = sym (slots-used (rule (c .before .before .before .before .before .before .before))) ∙ sym (c .slots-pass .ensures)
+
+-- ---- the answers
 blank-rule-requires : tie.Need-blank-rule-requires
 blank-rule-requires c κs = search needs
 
@@ -33,9 +52,8 @@ start-ok-requires c κs = search needs
 returns-3 : tie.Need-returns-3
 unfolding choose every
 returns-3 c =
-    let e = sym (c .before .before .before .ranges-ok .ensures) ∙ not-false (c .before .before .before .ranges-ok .result) (c .before .before .if2 .left) in
     let f = sym (c .before .start-ok .ensures) ∙ not-true (c .before .start-ok .result) (c .if3 .taken) in
-    rw (c .before .before .before .before .if1 .left, rule-parts) (simp (e, f))
+    rw (c .before .before .before .before .if1 .left, rule-parts) (simp (ranged (c .before .before), f))
 
 keeps-ok-requires : tie.Need-keeps-ok-requires
 keeps-ok-requires c κs = search needs
@@ -43,27 +61,19 @@ keeps-ok-requires c κs = search needs
 returns-4 : tie.Need-returns-4
 unfolding choose every
 returns-4 c =
-    let e = sym (c .before .before .before .before .before .ranges-ok .ensures) ∙ not-false (c .before .before .before .before .before .ranges-ok .result)
-    (c .before .before .before .before .if2 .left) in
-    let f = sym (c .before .before .before .start-ok .ensures) ∙ not-false (c .before .before .before .start-ok .result) (c .before .before .if3 .left) in
     let g = sym (c .before .keeps-ok .ensures) ∙ not-true (c .before .keeps-ok .result) (c .if4 .taken) in
-    rw (c .before .before .before .before .before .before .if1 .left, rule-parts) (simp (e, f, g))
+    rw (c .before .before .before .before .before .before .if1 .left, rule-parts)
+    (simp (ranged (c .before .before .before .before), started (c .before .before), g))
 
 slots-pass-requires : tie.Need-slots-pass-requires
-slots-pass-requires c κs =
-    ranges-used _ (sym (c .before .before .before .before .before .ranges-ok .ensures) ∙ not-false (c .before .before .before .before .before .ranges-ok .result)
-    (c .before .before .before .before .if2 .left))
+slots-pass-requires c κs = ranges-used _ (ranged (c .before .before .before .before))
 
 returns-5 : tie.Need-returns-5
 unfolding choose every
 returns-5 c =
-    let e = sym (c .before .before .before .before .before .before .before .ranges-ok .ensures) ∙ not-false (c .before .before .before .before .before .before .before .ranges-ok .result)
-    (c .before .before .before .before .before .before .if2 .left) in
-    let f = sym (c .before .before .before .before .before .start-ok .ensures) ∙ not-false (c .before .before .before .before .before .start-ok .result)
-    (c .before .before .before .before .if3 .left) in
-    let g = sym (c .before .before .before .keeps-ok .ensures) ∙ not-false (c .before .before .before .keeps-ok .result) (c .before .before .if4 .left) in
-    let h = sym (slots-used (c .before .before .before .before .before .before .before .before .before .args .r)) ∙ sym (c .before .slots-pass .ensures) ∙ not-true (c .before .slots-pass .result) (c .if5 .taken) in
-    rw (c .before .before .before .before .before .before .before .before .if1 .left, rule-parts) (simp (e, f, g, h))
+    let h = used (c .before) ∙ not-true (c .before .slots-pass .result) (c .if5 .taken) in
+    rw (c .before .before .before .before .before .before .before .before .if1 .left, rule-parts)
+    (simp (ranged (c .before .before .before .before .before .before), started (c .before .before .before .before), kept (c .before .before), h))
 
 slots-pass-requires-2 : tie.Need-slots-pass-requires-2
 slots-pass-requires-2 c κs = search needs
@@ -73,13 +83,15 @@ unfolding choose every
 returns-6 c =
     let r = c .before .before .before .before .before .before .before .before .before .before .args .r in
     let n : length (r .commands) ≡ mostCommands = search (needs, length-mapped) in
-    let e = sym (c .before .before .before .before .before .before .before .before .ranges-ok .ensures) ∙ not-false (c .before .before .before .before .before .before .before .before .ranges-ok .result)
-    (c .before .before .before .before .before .before .before .if2 .left) in
-    let f = sym (c .before .before .before .before .before .before .start-ok .ensures) ∙ not-false (c .before .before .before .before .before .before .start-ok .result)
-    (c .before .before .before .before .before .if3 .left) in
-    let g = sym (c .before .before .before .before .keeps-ok .ensures) ∙ not-false (c .before .before .before .before .keeps-ok .result) (c .before .before .before .if4 .left) in
-    let h = sym (slots-used r) ∙ sym (c .before .before .slots-pass .ensures) ∙ not-false (c .before .before .slots-pass .result) (c .before .if5 .left) in
-    rw (c .before .before .before .before .before .before .before .before .before .if1 .left, rule-parts) (simp (e, f, g, h) (c .slots-pass2 .ensures ∙ slots-free r (r .used) n ∙ sym (and-true _)))
+    let h = used (c .before .before) ∙ not-false (c .before .before .slots-pass .result) (c .before .if5 .left) in
+    rw (c .before .before .before .before .before .before .before .before .before .if1 .left, rule-parts)
+    (simp (
+      ranged (c .before .before .before .before .before .before .before),
+      started (c .before .before .before .before .before),
+      kept (c .before .before .before),
+      h,
+    )
+    (c .slots-pass2 .ensures ∙ slots-free r (r .used) n ∙ sym (and-true _)))
 
 pub rule-passes-spec : {M : Type 1} → statement M
 rule-passes-spec =

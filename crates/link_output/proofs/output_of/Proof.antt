@@ -1,3 +1,4 @@
+-- A refused output is handed on. Any Send or Save among the commands puts a Save behind them, and the list has room for it.
 use borrow.Author.Tests.{not-true, not-false}
 use native.Mathlib.Omega.{arith}
 use mathlib.Core.Path.{_≡_, sym, _∙_}
@@ -20,7 +21,8 @@ returns : tie.Need-returns
 returns c = λ i.
     let a = c .before .before .before .args in
     let y = c .before .before .process .result in
-    output-stops (base .limits) i (commandsIn (a .cs)) (durableView (a .d)) (replyOf (a .r) .out) y (c .before .before .process .ensures i) (not-true (y .going) (c .if1 .taken))
+    output-stops (base .limits) i (commandsIn (a .cs)) (durableView (a .d)) (replyOf (a .r) .out) y (c .before .before .process .ensures i)
+    (not-true (y .going) (c .if1 .taken))
 
 saves-requires : tie.Need-saves-requires
 saves-requires c κs = search needs
@@ -31,8 +33,10 @@ push-requires c κs =
     let y = c .before .before .before .before .before .before .process .result in
     let g : y .going ≡ true = not-false (y .going) (c .before .before .before .before .if1 .left) in
     let f = told-few (a .args .r) (a .pre .3) in
-    let p = process-small (base .limits) nobody (durableView (a .args .d)) (replyOf (a .args .r) .out) (whole-pend (a .args .d) (a .pre .0)) (whole-took (a .args .d) (a .pre .0)) in
-    let z = ready-within nobody (a .args .cs) _ y _ (omega arith) p (a .pre .1) (a .pre .2) (c .before .before .before .before .before .before .process .ensures nobody) g in
+    let p = process-small (base .limits) nobody (durableView (a .args .d)) (replyOf (a .args .r) .out) (whole-pend (a .args .d) (a .pre .0))
+    (whole-took (a .args .d) (a .pre .0)) in
+    let z = ready-within nobody (a .args .cs) _ y _ (omega arith) p (a .pre .1) (a .pre .2)
+    (c .before .before .before .before .before .before .process .ensures nobody) g in
     let u = z .few in
     (z .same, omega arith)
 
@@ -45,14 +49,17 @@ returns-2 c = λ i.
     let a = c .before .before .before .before .before .before .before .before .before .args in
     let y = c .before .before .before .before .before .before .before .before .process .result in
     c .going-on .ensures
-    ∙ output-saves (base .limits) i (commandsIn (a .cs)) (durableView (a .d)) (replyOf (a .r) .out) y (c .before .before .before .before .before .before .before .before .process .ensures i) (not-false (y .going) (c .before .before .before .before .before .before .if1 .left))
+    ∙ output-saves (base .limits) i (commandsIn (a .cs)) (durableView (a .d)) (replyOf (a .r) .out) y
+    (c .before .before .before .before .before .before .before .before .process .ensures i)
+    (not-false (y .going) (c .before .before .before .before .before .before .if1 .left))
     (sym (c .before .before .before .before .before .saves .ensures) ∙ c .before .before .before .before .if2 .taken) _ (c .before .push .ensures)
 
 returns-3 : tie.Need-returns-3
 returns-3 c = λ i.
     let a = c .before .before .before .before .before .args in
     let y = c .before .before .before .before .process .result in
-    output-plain (base .limits) i (commandsIn (a .cs)) (durableView (a .d)) (replyOf (a .r) .out) y (c .before .before .before .before .process .ensures i) (not-false (y .going) (c .before .before .if1 .left)) (sym (c .before .saves .ensures) ∙ c .if2 .left)
+    output-plain (base .limits) i (commandsIn (a .cs)) (durableView (a .d)) (replyOf (a .r) .out) y (c .before .before .before .before .process .ensures i)
+    (not-false (y .going) (c .before .before .if1 .left)) (sym (c .before .saves .ensures) ∙ c .if2 .left)
 
 pub output-of-spec : {M : Type 1} → statement M
 output-of-spec =

@@ -1,3 +1,4 @@
+-- No command before place i is durable. One that is decides, and at the end none was.
 use borrow.Author.Needs.{needs}
 use native.Mathlib.Omega.{arith}
 use Prim.Native.Nat.{_≤_, _-_}
@@ -34,7 +35,8 @@ returns : tie.Need-returns Inv-loop μ-loop
 returns c =
     let a = c .before .before .before .before .before .before .args .r in let l = c .before .before .before .before .loop in
     let n : length (a .commands) ≡ mostCommands = search (needs, length-mapped) in
-    let f = walk-fails passing (a .commands) (a .used) outside (omega arith) (l .i) _ (search needs) (ap not (sym (c .before .is-durable .ensures) ∙ c .if1 .taken)) (l .inv .1) in
+    let f = walk-fails passing (a .commands) (a .used) outside (omega arith) (l .i) _ (search needs)
+    (ap not (sym (c .before .is-durable .ensures) ∙ c .if1 .taken)) (l .inv .1) in
     ap not f ∙ sym (saves-any (take (a .used) (a .commands)))
 
 add-i : tie.Need-add-i Inv-loop μ-loop
@@ -46,14 +48,18 @@ loop-less c = search needs
 loop-again : tie.Need-loop-again Inv-loop μ-loop
 loop-again c =
     let a = c .before .before .before .before .before .before .args .r in let l = c .before .before .before .before .loop in
-    let n : length (a .commands) ≡ mostCommands = search (needs, length-mapped) in
-    (search needs, walk-on passing (a .commands) (a .used) outside (omega arith) (l .i) _ (search needs) (ap not (sym (c .before .is-durable .ensures) ∙ c .if1 .left)) (l .inv .1))
+    let n : length (a .commands) ≡ mostCommands = search (needs, length-mapped) in (
+      search needs,
+      walk-on passing (a .commands) (a .used) outside (omega arith) (l .i) _ (search needs)
+          (ap not (sym (c .before .is-durable .ensures) ∙ c .if1 .left)) (l .inv .1),
+    )
 
 returns-2 : tie.Need-returns-2 Inv-loop μ-loop
 returns-2 c =
     let a = c .before .before .before .args .r in let l = c .before .loop in
     let n : length (a .commands) ≡ mostCommands = search (needs, length-mapped) in
-    ap not (walk-ends passing (a .commands) (a .used) outside (omega arith) (l .i) _ (search needs) (l .inv .1)) ∙ sym (saves-any (take (a .used) (a .commands)))
+    ap not (walk-ends passing (a .commands) (a .used) outside (omega arith) (l .i) _ (search needs) (l .inv .1))
+    ∙ sym (saves-any (take (a .used) (a .commands)))
 
 pub saves-spec : {M : Type 1} → statement M
 saves-spec =

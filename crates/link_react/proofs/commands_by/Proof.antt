@@ -1,3 +1,4 @@
+-- After i turns the array holds what the first i commands tell, and zeros.
 use borrow.Author.Needs.{needs}
 use native.Mathlib.Omega.{arith}
 use Prim.Native.Nat.{ℕ, _≤_, _-_}
@@ -47,7 +48,8 @@ loop-again c =
     let n : length (a .r .commands) ≡ mostCommands = search (needs, length-mapped) in (
       search needs,
       search needs,
-      ap (λ x. set (l .out) (l .i) (slot x)) (c .told-by .ensures) ∙ told-next (a .source) (a .value) (a .r .commands) (l .i) _ (l .out) (search needs) (search needs) (l .inv .2),
+      ap (λ x. set (l .out) (l .i) (slot x)) (c .told-by .ensures)
+          ∙ told-next (a .source) (a .value) (a .r .commands) (l .i) _ (l .out) (search needs) (search needs) (l .inv .2),
     )
 
 returns : tie.Need-returns Inv-loop μ-loop

@@ -1,3 +1,4 @@
+-- No rule before place i matches. So the place at which the walk stops is how many lead without a match.
 use borrow.Author.Count.{below-none, below-more}
 use native.Mathlib.Omega.{arith}
 use Prim.Native.Nat.{ℕ, _≤_, _<_, _-_}
@@ -54,7 +55,8 @@ returns-2 c =
     let a = c .before .before .before .args in
     let l = c .before .loop in
     let n : length (a .t .rules) ≡ mostRules = search (needs, length-mapped) in
-    lead-first (mismatches (a .event) (a .state) (a .value)) (a .t .rules) (a .t .used) (l .i) outside (search needs) (search needs) (l .inv .1) (λ h. absurd (omega arith))
+    lead-first (mismatches (a .event) (a .state) (a .value)) (a .t .rules) (a .t .used) (l .i) outside (search needs) (search needs) (l .inv .1)
+    (λ h. absurd (omega arith))
 
 pub first-match-spec : {M : Type 1} → statement M
 first-match-spec =

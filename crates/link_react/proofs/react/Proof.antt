@@ -1,3 +1,4 @@
+-- The first place that matches holds the rule that decides. Where there is none the reply is empty and the state stays.
 use native.Mathlib.Omega.{arith}
 use Prim.Native.Nat.{_<_, _≤_}
 use mathlib.Core.Path.{_≡_}
@@ -32,7 +33,8 @@ reaction-by-requires c κs =
     let at = c .before .before .before .first-match .result in
     let h : at < a .args .t .used = search needs in
     let n = size (a .args .t) (search (needs, length-mapped)) (table-is (a .args .t) (a .pre) .fit) in
-    rw (← getD-take (a .args .t .used) (a .args .t .rules) at outside h) (sound-used (rulesOf (a .args .t)) at (table-is (a .args .t) (a .pre) .good) (omega arith))
+    rw (← getD-take (a .args .t .used) (a .args .t .rules) at outside h)
+    (sound-used (rulesOf (a .args .t)) at (table-is (a .args .t) (a .pre) .good) (omega arith))
 
 returns : tie.Need-returns
 returns c =
@@ -40,14 +42,16 @@ returns c =
     let at = c .before .before .before .before .first-match .result in
     let h : at < a .args .t .used = search needs in
     let n = size (a .args .t) (search (needs, length-mapped)) (table-is (a .args .t) (a .pre) .fit) in
-    reacts (a .args .event) (a .args .state) (a .args .source) (a .args .value) outside (rulesOf (a .args .t)) at (c .reaction-by .result) (c .before .before .before .before .first-match .ensures) (omega arith)
+    reacts (a .args .event) (a .args .state) (a .args .source) (a .args .value) outside (rulesOf (a .args .t)) at (c .reaction-by .result)
+    (c .before .before .before .before .first-match .ensures) (omega arith)
     (rw (getD-take (a .args .t .used) (a .args .t .rules) at outside h) (c .reaction-by .ensures))
 
 returns-2 : tie.Need-returns-2
 returns-2 c =
     let a = c .before .before in
     let n = size (a .args .t) (search (needs, length-mapped)) (table-is (a .args .t) (a .pre) .fit) in
-    ignores (a .args .event) (a .args .state) (a .args .source) (a .args .value) outside (rulesOf (a .args .t)) (c .before .first-match .result) (c .before .first-match .ensures) (search needs)
+    ignores (a .args .event) (a .args .state) (a .args .source) (a .args .value) outside (rulesOf (a .args .t)) (c .before .first-match .result)
+    (c .before .first-match .ensures) (search needs)
 
 pub react-spec : {M : Type 1} → statement M
 react-spec =

@@ -1,3 +1,4 @@
+-- By what is saved: that is the event.
 use Rattle.rules.specs.Inner.{atStart}
 use borrow.Author.Needs.{needs}
 use Rattle.link_react.proofs.react_at_start.Statement.{statement}

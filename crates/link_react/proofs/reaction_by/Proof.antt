@@ -1,3 +1,4 @@
+-- The mark, the state and the count are the rule's own, and the commands were told one by one.
 use mathlib.Core.Path.{_≡_}
 use lib.ListN.{length}
 use Rattle.lists.proofs.Places.{length-mapped}
