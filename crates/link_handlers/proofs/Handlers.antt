@@ -7,7 +7,7 @@ use native.Mathlib.Omega.{arith}
 use mathlib.Core.Path.{_≡_, refl, sym, ap, _∙_}
 use mathlib.Core.Bool.{Bool, true, false}
 use mathlib.Core.Option.{Option, none, some}
-use mathlib.Core.List.{List, [], _∷_, _++_, map, map-append, append-assoc}
+use mathlib.Core.List.{List, [], _∷_, _++_, map, map-append}
 use lib.ListN.{length, take, getD, length-map, length-take}
 use lib.Seq.{take-suc, length-take-le}
 use lib.Dec.{lit≤, leb}
@@ -23,7 +23,7 @@ use Rattle.types.specs.declared.Payload.{Payload}
 use Rattle.types.specs.declared.Pending.{Pending}
 use Rattle.types.specs.declared.Storage.{Storage}
 use Rattle.types.specs.declared.Rule.{Rule}
-use Rattle.types.specs.declared.Message.the-variants.{Deliver}
+use Rattle.types.specs.declared.Message.the-variants.{Deliver, Ack}
 use Rattle.answers.specs.Answers.{answerOf}
 use Rattle.rules.specs.Outcome.{Outcome, done, refused, bind, Limits, base}
 use Rattle.rules.specs.Inner.{Reply, reply, atStart, ignored, nobody}
@@ -41,13 +41,13 @@ use Rattle.link_durable.specs.Views.{pendingList, takenList, durableView, durab
 use Rattle.link_durable.proofs.Containers.{durable-parts, durable-back}
 use Rattle.link_handlers.specs.declared.Link.{Link}
 use Rattle.link_output.specs.declared.LinkCommand.{LinkCommand}
-use Rattle.link_output.specs.declared.LinkCommand.the-variants.{Set, Send, Save}
+use Rattle.link_output.specs.declared.LinkCommand.the-variants.{Set, Send}
 use Rattle.link_output.specs.declared.Commands.{Commands}
 use Rattle.link_output.specs.declared.Output.{Output}
 use Rattle.link_handlers.specs.declared.Did.{Did}
-use Rattle.link_output.specs.Views.{commandsIn, commandsOf, commandAs, outputAs, Whole}
-use Rattle.link_handlers.specs.Views.{linkAs, didAs, concluded}
-use Rattle.link_output.proofs.Outputs.{commands-back, commands-same, then-one, Went, halted, whole-is, whole-pend, whole-took}
+use Rattle.link_output.specs.Views.{commandsIn, commandsOf, commandAs, outputAs, savedAs, Whole}
+use Rattle.link_handlers.specs.Views.{linkView, linkAs, didAs, concluded}
+use Rattle.link_output.proofs.Outputs.{commands-back, commands-same, then-one, saved-last, whole-is, whole-pend, whole-took}
 
 -- ---- the structs, part by part
 pub did-is : (a b : Answer) (l m : Link) (t : Bool) (cs es : Commands) → a ≡ b → l ≡ m → cs ≡ es
@@ -68,19 +68,6 @@ pub one-in : (cs : Commands) (c : LinkCommand) → cs ≡ commandsOf (c ∷ []) 
 one-in cs c e = ap commandsIn e ∙ commands-back (c ∷ [])
 
 -- ---- an output, and what is made of it
-module _ (cs : List LinkCommand) (m : Outcome rules.Output) (y : Output) (e : y ≡ outputAs cs m) (l : Link) (k : rules.Output → Outcome rules.Did) where
-  pub did-stops : y .going ≡ false → _≡_ {A = Did} (record { answer = y .answer; link = l; touched = false; commands = commandsOf [] }) (didAs l (bind m k))
-  unfolding bind
-  did-stops g =
-      let h = halted cs m y e g in
-      let f : y .answer ≡ answerOf (h .0) = h .2 in
-      (λ i. record { answer = f i; link = l; touched = false; commands = commandsOf [] })
-      ∙ ap (didAs l) (sym (ap (λ (x : Outcome rules.Output). bind x k) (h .1)))
-
-  pub did-goes : (w : Went cs m y) → didAs l (k (w .out)) ≡ didAs l (bind m k)
-  unfolding bind
-  did-goes w = ap (didAs l) (sym (ap (λ (x : Outcome rules.Output). bind x k) (w .is)))
-
 -- What is concluded from an output y that follows the commands cs: k says it of the rules' output.
 pub concludes : (cs : List LinkCommand) (m : Outcome rules.Output) (y : Output) (l : Link) (s : ℕ) (k : rules.Output → Outcome rules.Did) → y ≡ outputAs cs m
     → ((o : rules.Output) → didAs l (k o) ≡ record {
@@ -94,10 +81,15 @@ unfolding bind choose
 concludes cs (done o) y l s k e f = ap (λ (x : Output). concluded l x s) e ∙ sym (f o)
 concludes cs (refused n) y l s k e f = ap (λ (x : Output). concluded l x s) e
 
--- commands told after the first ones
-pub after : (first cs : List LinkCommand) (c : Commands) (os : List rules.Command) → c ≡ commandsOf (first ++ map commandAs os) → first ≡ cs
-    → c ≡ commandsOf (cs ++ map commandAs os)
-after first cs c os e f = e ∙ ap (λ (x : List LinkCommand). commandsOf (x ++ map commandAs os)) f
+-- The Ack, what the output tells, and the Save: a message that was taken.
+pub takes : (i : Id) (l : Link) (s : Id) (n : Number) (p : Payload) (r : Reply) (m : Outcome rules.Output) (y : Output)
+    → y ≡ outputAs (Send s (Ack n) ∷ []) m
+    → concluded l (savedAs y) (choose (r .touched) (r .state) (l .state)) ≡ didAs l (bind m (rules.takenBy i (linkView l) s n p r))
+unfolding rules.takenBy bind choose commandAs
+takes i l s n p r (done o) y e =
+    ap (λ (x : Output). concluded l (savedAs x) (choose (r .touched) (r .state) (l .state))) e
+    ∙ did-is _ _ _ _ _ _ _ refl refl (saved-last (Send s (Ack n) ∷ []) (o .commands) (o .durable))
+takes i l s n p r (refused x) y e = ap (λ (z : Output). concluded l (savedAs z) (choose (r .touched) (r .state) (l .state))) e
 
 -- ---- the durable part of which a number was taken
 pub taken-whole : (d t : Durable) (s : Id) (n : Number) → Whole d → s .0 < mostActors → t ≡ durableAs (rules.withTaken s n (durableView d)) → Whole t
@@ -232,16 +224,6 @@ start-as c i rs st d y e f =
     let v : durableView d ≡ rules.durableOf st = ap durableView e ∙ durable-back (rules.durableOf st) in
     let u : y ≡ atStart rs (rules.durableOf st .inner) = f ∙ ap (λ (x : Durable). atStart rs (x .inner)) e in
     λ j. didAs (record { durable = e j; state = 0 }) (rules.starting c i (v j) (u j))
-
--- the Save that ends a taken message
-pub saved-last : (cs : List LinkCommand) (y z : Commands) (os : List rules.Command) (d : rules.Durable) → y ≡ commandsOf (cs ++ map commandAs os)
-    → z ≡ commandsOf (commandsIn y ++ Save ∷ [])
-    → z ≡ commandsOf (cs ++ map commandAs (os ++ rules.Save d ∷ []))
-unfolding commandAs
-saved-last cs y z os d e f =
-    then-one y (cs ++ map commandAs os) Save z e f
-    ∙ ap commandsOf (append-assoc cs (map commandAs os) (Save ∷ [])
-    ∙ ap (λ (x : List LinkCommand). cs ++ x) (sym (map-append commandAs os (rules.Save d ∷ []))))
 
 -- the output of what was made of a number taken, seen as the rules say it
 pub taken-seen : (i : Id) (l : Link) (s : Id) (n : Number) (r : Reaction) (t : Durable) (cs : List LinkCommand) (y : Output)

@@ -14,6 +14,7 @@ use link_output::no_commands;
 use link_output::one_command;
 use link_output::output_of;
 use link_output::push;
+use link_output::saved;
 use link_react::Reaction;
 use link_react::react;
 use link_react::react_at_start;
@@ -62,26 +63,19 @@ struct Settled {
 }
 
 // ---- handlers
-// A refusal: the link is the one that came.
-fn refuse(l: Link, answer: Answer) -> Did
-    ensures { λ r. ⌜ r ≡ record { answer = answer; link = l; touched = false; commands = commandsOf [] } ⌝ }
-{
-    let cs = no_commands();
-    Did {
-        answer: answer,
-        link: l,
-        touched: false,
-        commands: cs,
-    }
-}
-
-// What is made of an output: a refusal, or the link that it leaves, in this state.
+// What is made of an output: a refusal, with the link that came, or the link that the output leaves, in this state.
 fn conclude(l: Link, o: Output, state: u8) -> Did
     ensures { λ x. ⌜ x ≡ concluded l o state ⌝ }
 {
     if !o.going {
         let a = o.answer;
-        return refuse(l, a);
+        let cs = no_commands();
+        return Did {
+            answer: a,
+            link: l,
+            touched: false,
+            commands: cs,
+        };
     }
     let e = o.durable;
     let out = o.commands;
@@ -165,23 +159,9 @@ fn take_message(l: Link, s: Id, n: Number, r: Reaction) -> Did
     let t = take_number(d, s, n);
     let first = one_command(LinkCommand::Send(s, Message::Ack(n)));
     let o = output_of(t, first, r);
-    if !o.going {
-        let a = o.answer;
-        return refuse(l, a);
-    }
-    let e = o.durable;
-    let out = o.commands;
-    let more = push(out, LinkCommand::Save);
+    let kept = saved(o);
     let now = settle(l.state, r);
-    Did {
-        answer: Answer::Done,
-        link: Link {
-            durable: e,
-            state: now.state,
-        },
-        touched: true,
-        commands: more,
-    }
+    conclude(l, kept, now.state)
 }
 
 // Message n of s was handed to the inner actor, which gave r.

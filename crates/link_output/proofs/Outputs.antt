@@ -8,7 +8,7 @@ use mathlib.Core.Bool.{Bool, true, false, not, _&&_, true≢false, false≢true}
 use mathlib.Core.List.{List, [], _∷_, _++_, map, map-append, append-assoc, append-nil}
 use lib.ListN.{length, take, set, length-map, length-append, length-take}
 use lib.Seq.{take-at}
-use lib.Dec.{ltb, eqb}
+use lib.Dec.{lit<, ltb, eqb}
 use borrow.Author.Tests.{ltb-true, leb-true, lt-ltb, ne-eqb}
 use Rattle.lists.specs.Lists.{choose, any, all, pad}
 use Rattle.lists.proofs.Members.{every-cons}
@@ -41,7 +41,7 @@ use Rattle.link_output.specs.declared.Output.{Output}
 use Rattle.answers.specs.declared.Refusal.{Refusal}
 use Rattle.answers.specs.declared.Refusal.the-variants.{Nothing, Because}
 use Rattle.answers.specs.Refusals.{firstOf}
-use Rattle.link_output.specs.Views.{slot, commandsIn, commandsOf, commandAs, outputAs, Whole}
+use Rattle.link_output.specs.Views.{slot, commandsIn, commandsOf, commandAs, outputAs, savedAs, Whole}
 
 -- ---- the commands that the struct holds
 pub commands-back : (l : List LinkCommand) → commandsIn (commandsOf l) ≡ l
@@ -305,44 +305,49 @@ ready-within i cs m y n k h e u f g =
     let v = z .few in
     record { whole = z .whole; same = z .same; few = omega arith }
 
--- ---- the output saved
+-- There is room for a Save behind it: an output that was refused has no command.
+pub room : (i : Id) (cs : Commands) (m : Outcome rules.Output) (y : Output) (n : ℕ) → n ≤ mostCommands + 1 → Holds (Small (base .limits) i n) m
+    → cs ≡ commandsOf (commandsIn cs) → cs .used ≤ 1 → y ≡ outputAs (commandsIn cs) m
+    → (y .commands ≡ commandsOf (commandsIn (y .commands))) × (y .commands .used < mostTold)
+room i cs (done o) y n k h e u f =
+    let z = ready-within i cs (done o) y n k h e u f (ap (λ (x : Output). x .going) f) in
+    let v = z .few in
+    (z .same, omega arith)
+room i cs (refused x) y n k h e u f =
+    let g : y .commands ≡ commandsOf [] = ap (λ (x : Output). x .commands) f in
+    (commands-same (y .commands) [] g, rw g (lit< tt))
+
+-- ---- the output saved: a Save stands behind what goes on, and nothing behind a refusal
+pub saved-last : (cs : List LinkCommand) (os : List rules.Command) (d : rules.Durable)
+    → commandsOf (commandsIn (commandsOf (cs ++ map commandAs os)) ++ Save ∷ []) ≡ commandsOf (cs ++ map commandAs (os ++ rules.Save d ∷ []))
+unfolding commandAs
+saved-last cs os d =
+    ap (λ (x : List LinkCommand). commandsOf (x ++ Save ∷ [])) (commands-back (cs ++ map commandAs os))
+    ∙ ap commandsOf (append-assoc cs (map commandAs os) (Save ∷ []))
+    ∙ ap (λ (x : List LinkCommand). commandsOf (cs ++ x)) (sym (map-append commandAs os (rules.Save d ∷ [])))
+
+saved-output : (cs : List LinkCommand) (m : Outcome rules.Output) (y : Output) → y ≡ outputAs cs m → savedAs y ≡ outputAs cs (bind m (rules.thenSave true))
+unfolding rules.thenSave bind choose
+saved-output cs (done o) y e = ap savedAs e ∙ output-is true (answerOf 0) _ _ _ _ refl (saved-last cs (o .commands) (o .durable))
+saved-output cs (refused n) y e = ap savedAs e
+
+plain-output : (cs : List LinkCommand) (m : Outcome rules.Output) (y : Output) → y ≡ outputAs cs m → y ≡ outputAs cs (bind m (rules.thenSave false))
+unfolding rules.thenSave bind choose
+plain-output cs (done o) y e =
+    e ∙ output-is true (answerOf 0) _ _ _ _ refl (ap (λ (x : List rules.Command). commandsOf (cs ++ map commandAs x)) (sym (append-nil (o .commands))))
+plain-output cs (refused n) y e = e
+
 module _ (c : Limits) (i : Id) (cs : List LinkCommand) (d : rules.Durable) (os : List InnerCommand) (y : Output)
     (e : y ≡ outputAs cs (rules.process c i d os)) where
-  pub output-stops : y .going ≡ false → y ≡ outputAs cs (rules.output c i d os)
-  unfolding rules.output bind
-  output-stops g =
-      let h = halted cs (rules.process c i d os) y e g in
-      e ∙ ap (outputAs cs) (h .1) ∙ ap (outputAs cs) (sym (ap (λ (m : Outcome rules.Output). bind m (rules.thenSave (any rules.durably os))) (h .1)))
+  by-test : (b : Bool) → any rules.durably os ≡ b → outputAs cs (bind (rules.process c i d os) (rules.thenSave b)) ≡ outputAs cs (rules.output c i d os)
+  unfolding rules.output
+  by-test b f = ap (λ (x : Bool). outputAs cs (bind (rules.process c i d os) (rules.thenSave x))) (sym f)
 
-  output-done : (w : Went cs (rules.process c i d os) y) (b : Bool) → any rules.durably os ≡ b
-      → rules.output c i d os ≡ done (record {
-        durable = w .out .durable;
-        commands = w .out .commands ++ choose b (rules.Save (w .out .durable) ∷ []) [];
-        events = w .out .events;
-      })
-  unfolding rules.output rules.thenSave bind
-  output-done w b f = rw (w .is, f)
+  pub output-saves : any rules.durably os ≡ true → savedAs y ≡ outputAs cs (rules.output c i d os)
+  output-saves f = saved-output cs _ y e ∙ by-test true f
 
-  pub output-saves : y .going ≡ true → any rules.durably os ≡ true → (z : Commands) → z ≡ commandsOf (commandsIn (y .commands) ++ Save ∷ [])
-      → _≡_ {A = Output} (record { going = true; answer = answerOf 0; durable = y .durable; commands = z }) (outputAs cs (rules.output c i d os))
-  unfolding choose commandAs
-  output-saves g f z q =
-      let w = went cs (rules.process c i d os) y e g in
-      let l = map commandAs (w .out .commands) in
-      let a : z ≡ commandsOf (cs ++ map commandAs (w .out .commands ++ rules.Save (w .out .durable) ∷ [])) =
-      then-one (y .commands) (cs ++ l) Save z (w .commands) q
-      ∙ ap commandsOf (append-assoc cs l (Save ∷ [])
-      ∙ ap (λ (x : List LinkCommand). cs ++ x) (sym (map-append commandAs (w .out .commands) (rules.Save (w .out .durable) ∷ [])))) in
-      output-is true (answerOf 0) (y .durable) _ z _ (w .durable) a ∙ ap (outputAs cs) (sym (output-done w true f))
-
-  pub output-plain : y .going ≡ true → any rules.durably os ≡ false → y ≡ outputAs cs (rules.output c i d os)
-  unfolding choose
-  output-plain g f =
-      let w = went cs (rules.process c i d os) y e g in
-      let a : w .out .commands ≡ w .out .commands ++ [] = sym (append-nil (w .out .commands)) in
-      e ∙ ap (outputAs cs) (w .is)
-      ∙ (λ j. record { going = true; answer = answerOf 0; durable = durableAs (w .out .durable); commands = commandsOf (cs ++ map commandAs (a j)) })
-      ∙ ap (outputAs cs) (sym (output-done w false f))
+  pub output-plain : any rules.durably os ≡ false → y ≡ outputAs cs (rules.output c i d os)
+  output-plain f = plain-output cs _ y e ∙ by-test false f
 
 -- ---- whether anything is durable, and whether anything was told
 abbrev pub outside : InnerSlot

@@ -2,9 +2,9 @@
 -- Assumes nothing.
 use mathlib.Core.Path.{_≡_}
 use mathlib.Core.Bool.{true, false}
-use mathlib.Core.List.{List, [], _++_, map}
+use mathlib.Core.List.{List, [], _∷_, _++_, map}
 use lib.ListN.{length, take}
-use Rattle.lists.specs.Lists.{pad}
+use Rattle.lists.specs.Lists.{choose, pad}
 use Rattle.types.specs.Capacities.{mostTold}
 use Rattle.types.specs.declared.Id.{Id}
 use Rattle.answers.specs.Answers.{answerOf}
@@ -52,6 +52,11 @@ commandView d Save = rules.Save d
 abbrev pub outputAs : List LinkCommand → Outcome rules.Output → Output
 outputAs cs (done o) = record { going = true; answer = answerOf 0; durable = durableAs (o .durable); commands = commandsOf (cs ++ map commandAs (o .commands)) }
 outputAs cs (refused n) = record { going = false; answer = answerOf n; durable = durableAs rules.fresh; commands = commandsOf [] }
+
+-- An output, and behind it the Save of what it leaves, where it goes on.
+abbrev pub savedAs : Output → Output
+savedAs y = choose (y .going)
+    (record { going = true; answer = answerOf 0; durable = y .durable; commands = commandsOf (commandsIn (y .commands) ++ Save ∷ []) }) y
 
 -- What is promised of a reaction's output behind these commands, for every number that the actor may have: only the events name it.
 abbrev pub Outputs : Durable → Commands → Reaction → Output → Type 0

@@ -28,7 +28,7 @@ ghost use Rattle.rules.specs.Outcome.{base};
 ghost use Rattle.rules.specs.Link as rules;
 ghost use Rattle.link_react.specs.Views.{replyOf};
 ghost use Rattle.link_durable.specs.Views.{durableView, durableAs};
-ghost use Rattle.link_output.specs.Views.{commandsIn, commandsOf, outputAs, Outputs, Whole};
+ghost use Rattle.link_output.specs.Views.{commandsIn, commandsOf, outputAs, savedAs, Outputs, Whole};
 
 // An enum cannot hold an array, so a Save has no content: it saves the durable part of the answered link.
 pub enum LinkCommand {
@@ -211,20 +211,28 @@ fn saves(r: Reaction) -> bool
     false
 }
 
+// An output, and behind it the Save of what it leaves, where it goes on.
+pub fn saved(o: Output) -> Output
+    requires { ⌜ (o .commands ≡ commandsOf (commandsIn (o .commands))) × (o .commands .used < mostTold) ⌝ }
+    ensures { λ x. ⌜ x ≡ savedAs o ⌝ }
+{
+    if !o.going {
+        return o;
+    }
+    let e = o.durable;
+    let out = o.commands;
+    let more = push(out, LinkCommand::Save);
+    going_on(e, more)
+}
+
 // The output of a reaction, saved once after all of it if there was any Send or Save.
 pub fn output_of(d: Durable, cs: Commands, r: Reaction) -> Output
     requires { ⌜ Whole d × (cs ≡ commandsOf (commandsIn cs)) × (cs .used ≤ 1) × (r .used ≤ mostCommands) ⌝ }
     ensures { λ x. ⌜ Outputs d cs r x ⌝ }
 {
     let o = process(d, cs, r);
-    if !o.going {
-        return o;
-    }
     if saves(r) {
-        let e = o.durable;
-        let out = o.commands;
-        let more = push(out, LinkCommand::Save);
-        return going_on(e, more);
+        return saved(o);
     }
     o
 }
