@@ -6,7 +6,7 @@ use native.Mathlib.Omega.{arith}
 use mathlib.Core.Path.{_≡_, refl, sym, ap, _∙_}
 use mathlib.Core.Bool.{Bool, true, false}
 use mathlib.Core.List.{List, [], _∷_, _++_}
-use lib.ListN.{length, take, drop, getD, set, replicate, length-append, length-drop, take-append-drop, List·getD-eq-default}
+use lib.ListN.{length, take, drop, getD, set, replicate, length-append, length-take, length-drop, take-append-drop, List·getD-eq-default}
 use lib.Seq.{take-at, drop-at, length-take-le}
 use lib.Dec.{leb, eqb}
 use borrow.Author.Tests.{leb-true, le-leb, eqb-true}
@@ -180,6 +180,15 @@ durable-parts d e = let a = every-cons _ _ e in (a .0, every-cons _ _ (a .1) .0)
 
 pub durable-is : (d : Durable) → length (d .pending .records) ≡ mostPending → length (d .taken .last) ≡ mostActors → durableLaid d ≡ true → DurableLaid d
 durable-is d n m e = let a = durable-parts d e in record { pendings = pendings-are (d .pending) n (a .0); numbers = taken-are (d .taken) m (a .1) }
+
+-- What a part that is laid out holds fits.
+pub durable-small : (d : Durable) → durableLaid d ≡ true → (length (pendingList (d .pending)) ≤ mostPending) × (length (takenList (d .taken)) ≤ mostActors)
+unfolding pendingsLaid takenLaid
+durable-small d e =
+    let h = durable-parts d e in
+    let a = leb-true (d .pending .used) mostPending (every-cons _ _ (h .0) .0) in
+    let b = leb-true (d .taken .used) mostActors (every-cons _ _ (h .1) .0) in
+    (omega (arith, length-take (d .pending .used) (d .pending .records)), omega (arith, length-take (d .taken .used) (d .taken .last)))
 
 -- A durable part that fits is laid out, and seen as it was.
 pub durable-fits : (d : rules.Durable) → length (d .pending) ≤ mostPending → length (d .taken) ≤ mostActors → durableLaid (durableAs d) ≡ true

@@ -8,14 +8,14 @@ use mathlib.Core.Path.{_≡_, refl, sym, ap, _∙_}
 use mathlib.Core.Bool.{Bool, true, false}
 use mathlib.Core.Option.{Option, none, some}
 use mathlib.Core.List.{List, [], _∷_, _++_, map, map-append}
-use lib.ListN.{length, take, getD, length-map, length-take}
+use lib.ListN.{length, take, getD, length-map}
 use lib.Seq.{take-suc, length-take-le}
 use lib.Dec.{lit≤, leb}
-use borrow.Author.Tests.{leb-true, eq-eqb, ne-eqb}
+use borrow.Author.Tests.{eq-eqb, ne-eqb}
 use Rattle.lists.specs.Lists.{choose, all}
 use Rattle.lists.proofs.Members.{every-cons}
 use Rattle.lists.proofs.Places.{write-length}
-use Rattle.types.specs.Capacities.{mostTold, mostPending, mostActors, mostCommands, network}
+use Rattle.types.specs.Capacities.{mostActors, mostCommands, network}
 use Rattle.answers.specs.declared.Answer.{Answer}
 use Rattle.types.specs.declared.Id.{Id}
 use Rattle.types.specs.declared.Number.{Number}
@@ -37,8 +37,8 @@ use Rattle.link_inner.proofs.Tables.{sound-rules, table-is}
 use Rattle.link_react.proofs.Replies.{reply-few, start-few, reply-back}
 use Rattle.link_durable.specs.declared.Durable.{Durable}
 use Rattle.link_durable.specs.declared.Stored.{Stored}
-use Rattle.link_durable.specs.Views.{pendingList, takenList, durableView, durableAs, storedView, pendingsLaid, takenLaid, durableLaid, storedLaid}
-use Rattle.link_durable.proofs.Containers.{durable-parts, durable-back}
+use Rattle.link_durable.specs.Views.{durableView, durableAs, storedView, storedLaid}
+use Rattle.link_durable.proofs.Containers.{durable-small, durable-back}
 use Rattle.link_handlers.specs.declared.Link.{Link}
 use Rattle.link_output.specs.declared.LinkCommand.{LinkCommand}
 use Rattle.link_output.specs.declared.LinkCommand.the-variants.{Set, Send}
@@ -199,20 +199,12 @@ module _ (t : Table) (ok : tableOk t ≡ true) where
   start-back x v e = ap replyOf e ∙ reply-back _ (start-few (rulesOf t) v rules-ok)
 
 -- ---- a start, from what is stored
-some-small : (d : Durable) → durableLaid d ≡ true → (length (pendingList (d .pending)) ≤ mostPending) × (length (takenList (d .taken)) ≤ mostActors)
-unfolding pendingsLaid takenLaid
-some-small d e =
-    let h = durable-parts d e in
-    let a = leb-true (d .pending .used) mostPending (every-cons _ _ (h .0) .0) in
-    let b = leb-true (d .taken .used) mostActors (every-cons _ _ (h .1) .0) in
-    (omega (arith, length-take (d .pending .used) (d .pending .records)), omega (arith, length-take (d .taken .used) (d .taken .last)))
-
 pub stored-whole : (s : Stored) (d : Durable) → storedLaid s ≡ true → d ≡ durableAs (rules.durableOf (storedView s)) → Whole d
 unfolding storedLaid storedView rules.durableOf rules.fresh choose
 stored-whole s d e f = go (s .some) f
   where
     go : (b : Bool) → d ≡ durableAs (rules.durableOf (choose b (some (durableView (s .durable))) none)) → Whole d
-    go true q = let h = some-small (s .durable) (every-cons _ _ e .0) in whole-is d _ q (h .0) (h .1)
+    go true q = let h = durable-small (s .durable) (every-cons _ _ e .0) in whole-is d _ q (h .0) (h .1)
     go false q = whole-is d _ q (lit≤ tt) (lit≤ tt)
 
 pub start-as : (c : Limits) (i : Id) (rs : List Rule) (st : Option rules.Durable) (d : Durable) (y : Reply) → d ≡ durableAs (rules.durableOf st)

@@ -24,22 +24,21 @@ use types::NETWORK;
 use types::Number;
 use types::Payload;
 ghost use mathlib.Core.Path.{_≡_};
-ghost use mathlib.Core.Bool.{true, false};
-ghost use mathlib.Core.List.{List, []};
+ghost use mathlib.Core.Bool.{true};
+ghost use mathlib.Core.List.{List};
 ghost use Prim.Native.Nat.{_≤_, _<_};
 ghost use Rattle.lists.specs.Lists.{choose};
 ghost use Rattle.types.specs.Capacities.{mostActors, mostCommands};
 ghost use Rattle.types.specs.declared.Id.{Id};
 ghost use Rattle.types.specs.declared.Payload.{Payload};
 ghost use Rattle.types.specs.declared.Message.the-variants.{Deliver};
-ghost use Rattle.answers.specs.declared.Answer.the-variants.{Done};
 ghost use Rattle.rules.specs.Outcome.{bind, base};
 ghost use Rattle.rules.specs.Inner.{ignored};
 ghost use Rattle.rules.specs.Link as rules;
 ghost use Rattle.link_inner.specs.Views.{rulesOf, tableOk};
 ghost use Rattle.link_react.specs.Views.{replyOf};
-ghost use Rattle.link_durable.specs.Views.{durableView, storedView, durableLaid, storedLaid};
-ghost use Rattle.link_output.specs.Views.{commandsOf, Whole};
+ghost use Rattle.link_durable.specs.Views.{durableView, durableLaid, storedLaid};
+ghost use Rattle.link_output.specs.Views.{Whole};
 ghost use Rattle.link_handlers.specs.Views.{linkView, didAs, concluded, Starts, Hears, TimesOut};
 
 // The volatile part is the inner actor's state.

@@ -9,9 +9,8 @@ use mathlib.Core.List.{List, [], _∷_, _++_, map, map-append, append-assoc, app
 use lib.ListN.{length, take, set, length-map, length-append, length-take}
 use lib.Seq.{take-at}
 use lib.Dec.{lit<, ltb, eqb}
-use borrow.Author.Tests.{ltb-true, leb-true, lt-ltb, ne-eqb}
+use borrow.Author.Tests.{ltb-true, lt-ltb, ne-eqb}
 use Rattle.lists.specs.Lists.{choose, any, all, pad}
-use Rattle.lists.proofs.Members.{every-cons}
 use Rattle.lists.proofs.Places.{append-pad}
 use Rattle.lists.proofs.Walks.{all-map, any-not-all, map-back}
 use Rattle.types.specs.Capacities.{mostTold, mostPending, mostActors, mostCommands}
@@ -31,8 +30,8 @@ use Rattle.link_react.specs.declared.InnerSlot.{InnerSlot}
 use Rattle.link_react.specs.declared.Reaction.{Reaction}
 use Rattle.link_react.specs.Views.{replyOf}
 use Rattle.link_durable.specs.declared.Durable.{Durable}
-use Rattle.link_durable.specs.Views.{pendingList, takenList, durableView, durableAs, pendingsLaid, takenLaid, durableLaid}
-use Rattle.link_durable.proofs.Containers.{durable-parts, durable-is, durable-same, durable-fits, durable-back}
+use Rattle.link_durable.specs.Views.{pendingList, takenList, durableView, durableAs, durableLaid}
+use Rattle.link_durable.proofs.Containers.{durable-small, durable-is, durable-same, durable-fits, durable-back}
 use Rattle.link_output.specs.declared.LinkCommand.{LinkCommand}
 use Rattle.link_output.specs.declared.LinkCommand.the-variants.{Set, Save}
 use Rattle.link_output.specs.declared.CommandSlot.{CommandSlot}
@@ -93,10 +92,6 @@ pub halted : (cs : List LinkCommand) (m : Outcome rules.Output) (y : Output) →
 halted cs (done o) y e g = absurd (true≢false (sym (ap (λ (x : Output). x .going) e) ∙ g))
 halted cs (refused n) y e g = (n, refl, ap (λ (x : Output). x .answer) e)
 
-pub output-same : (y : Output) (cs : List LinkCommand) (o : rules.Output) → y .going ≡ true → y .answer ≡ answerOf 0 → y .durable ≡ durableAs (o .durable)
-    → y .commands ≡ commandsOf (cs ++ map commandAs (o .commands)) → y ≡ outputAs cs (done o)
-output-same y cs o a b c d = λ i. record { going = a i; answer = b i; durable = c i; commands = d i }
-
 -- ---- a durable part that is laid out
 pub whole-is : (d : Durable) (e : rules.Durable) → d ≡ durableAs e → length (e .pending) ≤ mostPending → length (e .taken) ≤ mostActors → Whole d
 whole-is d e p h k = record { test = rw p (durable-fits e h k); same = p ∙ ap durableAs (sym (ap durableView p ∙ durable-back e)) }
@@ -106,21 +101,13 @@ module _ (d : Durable) (w : Whole d) where
   whole-count = ap (λ (x : Durable). x .pending .used) (w .same)
 
   pub whole-pend : length (pendingList (d .pending)) ≤ mostPending
-  unfolding pendingsLaid
-  whole-pend =
-      let a = leb-true (d .pending .used) mostPending (every-cons _ _ (durable-parts d (w .test) .0) .0) in
-      let b = whole-count in
-      omega arith
+  whole-pend = durable-small d (w .test) .0
 
   pub whole-room : d .pending .used ≤ length (d .pending .records)
   whole-room = let a = whole-count in omega (arith, length-take (d .pending .used) (d .pending .records))
 
   pub whole-took : length (takenList (d .taken)) ≤ mostActors
-  unfolding takenLaid
-  whole-took =
-      let a = leb-true (d .taken .used) mostActors (every-cons _ _ (durable-parts d (w .test) .1) .0) in
-      let b : d .taken .used ≡ length (takenList (d .taken)) = ap (λ (x : Durable). x .taken .used) (w .same) in
-      omega arith
+  whole-took = durable-small d (w .test) .1
 
 pub whole-of : (d : Durable) → length (d .pending .records) ≡ mostPending → length (d .taken .last) ≡ mostActors → durableLaid d ≡ true → Whole d
 whole-of d n m e = record { test = e; same = durable-same d (durable-is d n m e) }

@@ -10,13 +10,11 @@ use mathlib.Core.Bool.{Bool, true, false, not}
 use mathlib.Core.List.{List, [], _∷_, _++_, map}
 use lib.ListN.{length, take, getD, set, replicate, length-map, length-take}
 use lib.Seq.{take-suc, length-take-le, take-at}
-use lib.Dec.{leb}
-use borrow.Author.Tests.{leb-true}
 use Rattle.lists.specs.Lists.{choose, all, lead, pad}
-use Rattle.lists.proofs.Members.{and-both, every-cons, all-in, get-in}
+use Rattle.lists.proofs.Members.{and-both, all-in, get-in}
 use Rattle.lists.proofs.Places.{append-pad}
 use Rattle.lists.proofs.Walks.{map-back}
-use Rattle.types.specs.Capacities.{mostCommands, mostRules}
+use Rattle.types.specs.Capacities.{mostCommands}
 use Rattle.types.specs.declared.Id.{Id}
 use Rattle.types.specs.declared.Storage.{Storage}
 use Rattle.types.specs.declared.Storage.the-variants.{Nothing, Value}

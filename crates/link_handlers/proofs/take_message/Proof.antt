@@ -2,7 +2,7 @@
 use borrow.Author.Needs.{needs}
 use native.Mathlib.Omega.{arith}
 use mathlib.Core.Path.{ap, _∙_}
-use mathlib.Core.List.{List, [], _∷_}
+use mathlib.Core.List.{List}
 use Rattle.types.specs.declared.Message.the-variants.{Ack}
 use Rattle.rules.specs.Outcome.{base}
 use Rattle.rules.specs.Inner.{nobody}
