@@ -128,8 +128,8 @@ pub fn on_start(table: Table, stored: Stored) -> Did
     ensures { λ x. ⌜ Starts table stored x ⌝ }
 {
     let d = stored_or_fresh(stored);
-    let saved = d.inner;
-    let r = react_at_start(table, saved);
+    let value = d.inner;
+    let r = react_at_start(table, value);
     start_with(d, r)
 }
 
