@@ -1,18 +1,20 @@
--- The structs' changes as changes of the lists that they hold.
+-- The structs' changes as changes of the lists that they hold. An array whose free places are zero is its list padded with zeros, so
+-- that a change of the one is the change of the other.
 -- Assumes nothing.
 use Prim.Native.Nat.{ℕ, suc, _+_, _-_, _≤_, _<_}
 use native.Mathlib.Omega.{arith}
 use mathlib.Core.Path.{_≡_, refl, sym, ap, _∙_}
-use mathlib.Core.Bool.{Bool, true}
+use mathlib.Core.Bool.{Bool, true, false}
 use mathlib.Core.List.{List, [], _∷_, _++_}
-use lib.ListN.{length, take, drop, getD, set, replicate, length-append, length-drop, take-append-drop, List·getD-eq-default}
+use lib.ListN.{length, take, drop, getD, set, replicate, length-append, length-take, length-drop, take-append-drop, List·getD-eq-default}
 use lib.Seq.{take-at, drop-at, length-take-le}
 use lib.Dec.{leb, eqb}
 use borrow.Author.Tests.{leb-true, le-leb, eqb-true}
-use Rattle.lists.specs.Lists.{all, chain, endsIn, every, lead, del, pad, shrink}
+use Rattle.lists.specs.Lists.{choose, all, chain, endsIn, every, lead, del, pad, shrink}
 use Rattle.lists.proofs.Members.{every-cons, every-make, every-nil}
 use Rattle.lists.proofs.Walks.{all-same}
 use Rattle.lists.proofs.Places.{length-del, cut-found, cut-missing, laid-length, laid-get, laid-shrink, laid-append, laid-write, write-within, write-beyond}
+use Rattle.types.specs.Capacities.{mostPending, mostActors}
 use Rattle.types.specs.declared.Id.{Id}
 use Rattle.types.specs.declared.Number.{Number}
 use Rattle.types.specs.declared.Pending.{Pending}
@@ -24,7 +26,8 @@ use Rattle.rules.specs.WellFormed.{pendingOk, byNumber, durableOk}
 use Rattle.link_durable.specs.declared.Pendings.{Pendings}
 use Rattle.link_durable.specs.declared.Taken.{Taken}
 use Rattle.link_durable.specs.declared.Durable.{Durable}
-use Rattle.link_durable.specs.Views.{zeroPending, pendingList, pendingsOf, otherNumber, takenList, takenAs, durableView, durableAs, blankPending, blankNumber, pendingsLaid, takenLaid, durableLaid}
+use Rattle.link_durable.specs.Views.{zeroPending, pendingList, pendingsOf, otherNumber, takenList, takenAs, durableView, durableAs, blankPending}
+use Rattle.link_durable.specs.Views.{pendingPasses, blankNumber, pendingsLaid, takenLaid, durableLaid}
 
 -- ---- an array of which the first places are used and the others hold z, as a test p finds it
 pub record Laid {A : Type 0} (n : ℕ) (z : A) (es : List A) (used : ℕ) : Type 0 where
@@ -32,7 +35,8 @@ pub record Laid {A : Type 0} (n : ℕ) (z : A) (es : List A) (used : ℕ) : Type
   pub rest : es ≡ pad n z (take used es)
 
 module _ {A : Type 0} (p : A → Bool) (z : A) where
-  laid-is : ((x : A) → p x ≡ true → x ≡ z) → (n : ℕ) (es : List A) (used : ℕ) → length es ≡ n → every (leb used n ∷ all p (drop used es) ∷ []) ≡ true → Laid n z es used
+  laid-is : ((x : A) → p x ≡ true → x ≡ z) → (n : ℕ) (es : List A) (used : ℕ) → length es ≡ n → every (leb used n ∷ all p (drop used es) ∷ []) ≡ true
+      → Laid n z es used
   unfolding pad
   laid-is only n es used h e =
       let a = every-cons _ _ e in
@@ -53,7 +57,8 @@ module _ {A : Type 0} (p : A → Bool) (z : A) where
   -- an array that holds a list
   is-laid : p z ≡ true → (n : ℕ) (l : List A) → length l ≤ n → every (leb (length l) n ∷ all p (drop (length l) (pad n z l)) ∷ []) ≡ true
   unfolding pad
-  is-laid zero n l h = every-make _ _ (le-leb (length l) n h) (every-make _ _ (ap (all p) (drop-at l _ (length l) refl) ∙ all-fill zero (n - length l)) every-nil)
+  is-laid zero n l h =
+      every-make _ _ (le-leb (length l) n h) (every-make _ _ (ap (all p) (drop-at l _ (length l) refl) ∙ all-fill zero (n - length l)) every-nil)
 
 pub pad-view : {A : Type 0} (n : ℕ) (z : A) (l : List A) → take (length l) (pad n z l) ≡ l
 unfolding pad
@@ -61,7 +66,7 @@ pad-view n z l = take-at l _ (length l) refl
 
 -- ---- pending records
 abbrev pub PendingLaid : Pendings → Type 0
-PendingLaid p = Laid 32 zeroPending (p .records) (p .used)
+PendingLaid p = Laid mostPending zeroPending (p .records) (p .used)
 
 blank-pending : (q : Pending) → blankPending q ≡ true → q ≡ zeroPending
 unfolding blankPending
@@ -70,26 +75,28 @@ blank-pending q e =
     let x = eqb-true (q .number .0) 0 (a .0) in let y = eqb-true (q .dst .0) 0 (b .0) in let z = eqb-true (q .payload .0) 0 (c .0) in
     λ i. record { number = record { 0 = x i }; dst = record { 0 = y i }; payload = record { 0 = z i } }
 
-pub pendings-are : (p : Pendings) → length (p .records) ≡ 32 → pendingsLaid p ≡ true → PendingLaid p
+pub pendings-are : (p : Pendings) → length (p .records) ≡ mostPending → pendingsLaid p ≡ true → PendingLaid p
 unfolding pendingsLaid
-pendings-are p n e = laid-is blankPending zeroPending blank-pending 32 (p .records) (p .used) n e
+pendings-are p n e = laid-is blankPending zeroPending blank-pending mostPending (p .records) (p .used) n e
 
-pub pendings-of : (l : List Pending) → length l ≤ 32 → pendingsLaid (pendingsOf l) ≡ true
+pub pendings-of : (l : List Pending) → length l ≤ mostPending → pendingsLaid (pendingsOf l) ≡ true
 unfolding pendingsLaid blankPending every
-pendings-of l h = is-laid blankPending zeroPending refl 32 l h
+pendings-of l h = is-laid blankPending zeroPending refl mostPending l h
 
 module _ (p : Pendings) (laid : PendingLaid p) where
   pub count : length (pendingList p) ≡ p .used
-  count = laid-length 32 zeroPending (p .records) (p .used) (laid .fit) (laid .rest)
+  count = laid-length mostPending zeroPending (p .records) (p .used) (laid .fit) (laid .rest)
 
   -- the struct of a list
-  as-list : (es : List Pending) (u : ℕ) (l : List Pending) → es ≡ pad 32 zeroPending l → u ≡ length l → _≡_ {A = Pendings} (record { records = es; used = u }) (pendingsOf l)
+  as-list : (es : List Pending) (u : ℕ) (l : List Pending) → es ≡ pad mostPending zeroPending l → u ≡ length l
+      → _≡_ {A = Pendings} (record { records = es; used = u }) (pendingsOf l)
   as-list es u l e f = λ i. record { records = e i; used = f i }
 
   pub pendings-same : p ≡ pendingsOf (pendingList p)
   pendings-same = as-list (p .records) (p .used) (pendingList p) (laid .rest) (sym count)
 
-  pub removed : (n : Number) (at : ℕ) → at ≡ lead (otherNumber n) (pendingList p) → at < p .used → (es : List Pending) → es ≡ shrink (p .used) at zeroPending (p .records)
+  pub removed : (n : Number) (at : ℕ) → at ≡ lead (otherNumber n) (pendingList p) → at < p .used → (es : List Pending)
+      → es ≡ shrink (p .used) at zeroPending (p .records)
       → _≡_ {A = Pendings} (record { records = es; used = p .used - 1 }) (pendingsOf (without n (pendingList p)))
   unfolding without
   removed n at e h es f =
@@ -97,7 +104,8 @@ module _ (p : Pendings) (laid : PendingLaid p) where
       let w : lead (otherNumber n) (pendingList p) < length (pendingList p) = omega arith in
       let d = cut-found (λ (q : Pending). eqb (n .0) (q .number .0)) (pendingList p) w in
       rw d (as-list es (p .used - 1) _
-      (f ∙ laid-shrink 32 zeroPending (p .records) (p .used) (laid .fit) (laid .rest) at h ∙ ap (λ (k : ℕ). pad 32 zeroPending (del k (pendingList p))) e)
+      (f ∙ laid-shrink mostPending zeroPending (p .records) (p .used) (laid .fit) (laid .rest) at h
+      ∙ ap (λ (k : ℕ). pad mostPending zeroPending (del k (pendingList p))) e)
       (omega (arith, length-del (lead (otherNumber n) (pendingList p)) (pendingList p) w)))
 
   pub absent : (n : Number) (at : ℕ) → at ≡ lead (otherNumber n) (pendingList p) → p .used ≤ at → p ≡ pendingsOf (without n (pendingList p))
@@ -106,33 +114,35 @@ module _ (p : Pendings) (laid : PendingLaid p) where
       let v = count in
       rw (cut-missing (λ (q : Pending). eqb (n .0) (q .number .0)) (λ q. []) (pendingList p) (omega arith)) pendings-same
 
-  pub appended : (q : Pending) → p .used < 32 → _≡_ {A = Pendings} (record { records = set (p .records) (p .used) q; used = p .used + 1 }) (pendingsOf (pendingList p ++ q ∷ []))
+  pub appended : (q : Pending) → p .used < mostPending
+      → _≡_ {A = Pendings} (record { records = set (p .records) (p .used) q; used = p .used + 1 }) (pendingsOf (pendingList p ++ q ∷ []))
   appended q h =
       let v = count in
-      as-list _ _ (pendingList p ++ q ∷ []) (laid-append 32 zeroPending (p .records) (p .used) (laid .fit) (laid .rest) q h)
+      as-list _ _ (pendingList p ++ q ∷ []) (laid-append mostPending zeroPending (p .records) (p .used) (laid .fit) (laid .rest) q h)
       (omega (arith, length-append (pendingList p) (q ∷ [])))
 
 -- ---- numbers last taken
 abbrev pub TakenLaid : Taken → Type 0
-TakenLaid t = Laid 8 untaken (t .last) (t .used)
+TakenLaid t = Laid mostActors untaken (t .last) (t .used)
 
 blank-number : (n : Number) → blankNumber n ≡ true → n ≡ untaken
 unfolding blankNumber
 blank-number n e = let x = eqb-true (n .0) 0 e in λ i. record { 0 = x i }
 
-pub taken-are : (t : Taken) → length (t .last) ≡ 8 → takenLaid t ≡ true → TakenLaid t
+pub taken-are : (t : Taken) → length (t .last) ≡ mostActors → takenLaid t ≡ true → TakenLaid t
 unfolding takenLaid
-taken-are t n e = laid-is blankNumber untaken blank-number 8 (t .last) (t .used) n e
+taken-are t n e = laid-is blankNumber untaken blank-number mostActors (t .last) (t .used) n e
 
-pub taken-of : (l : List Number) → length l ≤ 8 → takenLaid (takenAs l) ≡ true
+pub taken-of : (l : List Number) → length l ≤ mostActors → takenLaid (takenAs l) ≡ true
 unfolding takenLaid blankNumber
-taken-of l h = is-laid blankNumber untaken refl 8 l h
+taken-of l h = is-laid blankNumber untaken refl mostActors l h
 
 module _ (t : Taken) (laid : TakenLaid t) where
   held : length (takenList t) ≡ t .used
-  held = laid-length 8 untaken (t .last) (t .used) (laid .fit) (laid .rest)
+  held = laid-length mostActors untaken (t .last) (t .used) (laid .fit) (laid .rest)
 
-  as-taken : (es : List Number) (u : ℕ) (l : List Number) → es ≡ pad 8 untaken l → u ≡ length l → _≡_ {A = Taken} (record { last = es; used = u }) (takenAs l)
+  as-taken : (es : List Number) (u : ℕ) (l : List Number) → es ≡ pad mostActors untaken l → u ≡ length l
+      → _≡_ {A = Taken} (record { last = es; used = u }) (takenAs l)
   as-taken es u l e f = λ i. record { last = e i; used = f i }
 
   pub taken-same : t ≡ takenAs (takenList t)
@@ -140,16 +150,16 @@ module _ (t : Taken) (laid : TakenLaid t) where
 
   pub looked : (s : Id) → getD (t .last) (s .0) untaken ≡ lastOf s (takenList t)
   unfolding lastOf
-  looked s = laid-get 8 untaken (t .last) (t .used) (laid .fit) (laid .rest) (s .0)
+  looked s = laid-get mostActors untaken (t .last) (t .used) (laid .fit) (laid .rest) (s .0)
 
-  pub never : (s : Id) → 8 ≤ s .0 → untaken ≡ lastOf s (takenList t)
+  pub never : (s : Id) → mostActors ≤ s .0 → untaken ≡ lastOf s (takenList t)
   unfolding lastOf
   never s h = let v = held in let f = laid .fit in sym (List·getD-eq-default (takenList t) untaken {n = s .0} (omega arith))
 
-  pub noted : (s : Id) (n : Number) (u : ℕ) → s .0 < 8 → u ≡ length (noteTaken s n (takenList t))
+  pub noted : (s : Id) (n : Number) (u : ℕ) → s .0 < mostActors → u ≡ length (noteTaken s n (takenList t))
       → _≡_ {A = Taken} (record { last = set (t .last) (s .0) n; used = u }) (takenAs (noteTaken s n (takenList t)))
   unfolding noteTaken
-  noted s n u h e = as-taken _ u _ (laid-write 8 untaken (t .last) (t .used) (laid .fit) (laid .rest) (s .0) n h) e
+  noted s n u h e = as-taken _ u _ (laid-write mostActors untaken (t .last) (t .used) (laid .fit) (laid .rest) (s .0) n h) e
 
   pub longer : (s : Id) (n : Number) → t .used ≤ s .0 → s .0 + 1 ≡ length (noteTaken s n (takenList t))
   unfolding noteTaken
@@ -168,17 +178,26 @@ pub durable-parts : (d : Durable) → durableLaid d ≡ true → (pendingsLaid (
 unfolding durableLaid
 durable-parts d e = let a = every-cons _ _ e in (a .0, every-cons _ _ (a .1) .0)
 
-pub durable-is : (d : Durable) → length (d .pending .records) ≡ 32 → length (d .taken .last) ≡ 8 → durableLaid d ≡ true → DurableLaid d
+pub durable-is : (d : Durable) → length (d .pending .records) ≡ mostPending → length (d .taken .last) ≡ mostActors → durableLaid d ≡ true → DurableLaid d
 durable-is d n m e = let a = durable-parts d e in record { pendings = pendings-are (d .pending) n (a .0); numbers = taken-are (d .taken) m (a .1) }
 
+-- What a part that is laid out holds fits.
+pub durable-small : (d : Durable) → durableLaid d ≡ true → (length (pendingList (d .pending)) ≤ mostPending) × (length (takenList (d .taken)) ≤ mostActors)
+unfolding pendingsLaid takenLaid
+durable-small d e =
+    let h = durable-parts d e in
+    let a = leb-true (d .pending .used) mostPending (every-cons _ _ (h .0) .0) in
+    let b = leb-true (d .taken .used) mostActors (every-cons _ _ (h .1) .0) in
+    (omega (arith, length-take (d .pending .used) (d .pending .records)), omega (arith, length-take (d .taken .used) (d .taken .last)))
+
 -- A durable part that fits is laid out, and seen as it was.
-pub durable-fits : (d : rules.Durable) → length (d .pending) ≤ 32 → length (d .taken) ≤ 8 → durableLaid (durableAs d) ≡ true
+pub durable-fits : (d : rules.Durable) → length (d .pending) ≤ mostPending → length (d .taken) ≤ mostActors → durableLaid (durableAs d) ≡ true
 unfolding durableLaid every
 durable-fits d h k = rw (pendings-of (d .pending) h, taken-of (d .taken) k)
 
 pub durable-back : (d : rules.Durable) → durableView (durableAs d) ≡ d
 durable-back d =
-    let p = pad-view 32 zeroPending (d .pending) in let t = pad-view 8 untaken (d .taken) in
+    let p = pad-view mostPending zeroPending (d .pending) in let t = pad-view mostActors untaken (d .taken) in
     λ i. record { next = d .next; pending = p i; taken = t i; inner = d .inner }
 
 pub same-parts : (n m : Number) (p q : Pendings) (t u : Taken) (s : Storage) → n ≡ m → p ≡ q → t ≡ u
@@ -186,14 +205,21 @@ pub same-parts : (n m : Number) (p q : Pendings) (t u : Taken) (s : Storage) →
 same-parts n m p q t u s e f g = λ i. record { next = e i; pending = f i; taken = g i; inner = s }
 
 pub durable-same : (d : Durable) → DurableLaid d → d ≡ durableAs (durableView d)
-durable-same d l = same-parts (d .next) (d .next) (d .pending) _ (d .taken) _ (d .inner) refl (pendings-same (d .pending) (l .pendings)) (taken-same (d .taken) (l .numbers))
+durable-same d l =
+    same-parts (d .next) (d .next) (d .pending) _ (d .taken) _ (d .inner) refl (pendings-same (d .pending) (l .pendings)) (taken-same (d .taken) (l .numbers))
 
 -- ---- the test of a durable part
+-- The used places pass where the rules' test passes.
+pub used-pass : (next : ℕ) (l : List Pending) → all (pendingOk next) l ≡ all (pendingPasses false next) l
+unfolding choose
+used-pass next l = refl
+
 pub formed : (d : Durable) (k : ℕ) → DurableLaid d → durableOk (base .limits) k (durableView d) ≡ every
     (leb 1 (d .next .0) ∷ all (pendingOk (d .next .0)) (pendingList (d .pending)) ∷ chain byNumber (pendingList (d .pending))
     ∷ leb (d .taken .used) k ∷ endsIn (λ n. leb 1 (n .0)) (takenList (d .taken)) ∷ [])
 unfolding durableOk every
 formed d k l =
     let n = count (d .pending) (l .pendings) in let f = l .pendings .fit in
-    let e : leb (length (pendingList (d .pending))) 32 ≡ true = le-leb (length (pendingList (d .pending))) 32 (omega arith) in
+    let m = length (pendingList (d .pending)) in
+    let e : leb m (base .limits .pending) ≡ true = le-leb m (base .limits .pending) (omega arith) in
     rw (e, held (d .taken) (l .numbers))

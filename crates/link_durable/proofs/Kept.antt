@@ -1,4 +1,5 @@
--- What is stored, part by part; and what the tests say of a struct that holds a well-formed durable part.
+-- What is stored, part by part; and what the tests say of a struct that holds a well-formed durable part. Well formed bounds the
+-- lists, so that they fit their arrays.
 -- Assumes nothing.
 use Prim.Native.Nat.{ℕ, _≤_}
 use native.Mathlib.Omega.{arith}
@@ -9,13 +10,15 @@ use mathlib.Core.List.{[], _∷_}
 use lib.Dec.{lit≤}
 use Rattle.lists.specs.Lists.{choose, every}
 use Rattle.lists.proofs.Members.{every-cons, every-make, every-nil}
+use Rattle.types.specs.Capacities.{mostActors}
 use Rattle.rules.specs.Outcome.{base}
 use Rattle.rules.specs.Link as rules
 use Rattle.rules.specs.WellFormed.{durableOk, storedOk}
 use Rattle.rules.proofs.FormedLink as formed
 use Rattle.link_durable.specs.declared.Durable.{Durable}
 use Rattle.link_durable.specs.declared.Stored.{Stored}
-use Rattle.link_durable.specs.Views.{durableView, durableAs, storedView, storedAs, zeroDurable, durableLaid, unsaved, blankDurable, storedLaid, durableFine, storedFine}
+use Rattle.link_durable.specs.Views.{durableView, durableAs, storedView, storedAs, zeroDurable, durableLaid, unsaved, blankDurable, storedLaid}
+use Rattle.link_durable.specs.Views.{durableFine, storedFine}
 use Rattle.link_durable.proofs.Containers.{durable-fits, durable-back}
 
 pub stored-some : (k : ℕ) (s : Stored) → s .some ≡ true → storedFine k s ≡ durableFine k (s .durable)
@@ -43,8 +46,8 @@ pub stored-formed : (k : ℕ) (s : Stored) → storedFine k s ≡ true → store
 unfolding storedFine
 stored-formed k s e = every-cons _ _ (every-cons _ _ e .1) .0
 
--- A durable part that is well formed among at most 8 actors passes, and so does what stores it.
-pub durable-kept : (k : ℕ) (d : rules.Durable) → k ≤ 8 → durableOk (base .limits) k d ≡ true → durableFine k (durableAs d) ≡ true
+-- A durable part that is well formed among at most so many actors passes, and so does what stores it.
+pub durable-kept : (k : ℕ) (d : rules.Durable) → k ≤ mostActors → durableOk (base .limits) k d ≡ true → durableFine k (durableAs d) ≡ true
 unfolding durableFine
 durable-kept k d h e =
     let f = formed.durable-is (base .limits) k d e in
@@ -55,7 +58,7 @@ some-ok : (k : ℕ) (d : rules.Durable) → storedOk (base .limits) k (some d) �
 unfolding storedOk
 some-ok k d e = e
 
-pub stored-kept : (k : ℕ) (st : Option rules.Durable) → k ≤ 8 → storedOk (base .limits) k st ≡ true → storedFine k (storedAs st) ≡ true
+pub stored-kept : (k : ℕ) (st : Option rules.Durable) → k ≤ mostActors → storedOk (base .limits) k st ≡ true → storedFine k (storedAs st) ≡ true
 unfolding unsaved blankDurable every
 stored-kept k none h e =
     let l = durable-fits zeroDurable (lit≤ tt) (lit≤ tt) in

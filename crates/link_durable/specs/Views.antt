@@ -7,13 +7,14 @@ use mathlib.Core.List.{List, [], _∷_}
 use lib.ListN.{length, take, drop}
 use lib.Dec.{leb, eqb}
 use Rattle.lists.specs.Lists.{choose, all, every, pad}
+use Rattle.types.specs.Capacities.{mostPending, mostActors}
 use Rattle.types.specs.declared.Number.{Number}
 use Rattle.types.specs.declared.Pending.{Pending}
 use Rattle.types.specs.declared.Storage.{Storage}
 use Rattle.types.specs.declared.Storage.the-variants.{Nothing, Value}
 use Rattle.rules.specs.Outcome.{base}
 use Rattle.rules.specs.Link as rules
-use Rattle.rules.specs.WellFormed.{durableOk, storedOk}
+use Rattle.rules.specs.WellFormed.{pendingOk, durableOk, storedOk}
 use Rattle.link_durable.specs.declared.Pendings.{Pendings}
 use Rattle.link_durable.specs.declared.Taken.{Taken}
 use Rattle.link_durable.specs.declared.Durable.{Durable}
@@ -27,7 +28,7 @@ abbrev pub pendingList : Pendings → List Pending
 pendingList p = take (p .used) (p .records)
 
 abbrev pub pendingsOf : List Pending → Pendings
-pendingsOf l = record { records = pad 32 zeroPending l; used = length l }
+pendingsOf l = record { records = pad mostPending zeroPending l; used = length l }
 
 abbrev pub otherNumber : Number → Pending → Bool
 otherNumber n q = not (eqb (n .0) (q .number .0))
@@ -37,7 +38,7 @@ abbrev pub takenList : Taken → List Number
 takenList t = take (t .used) (t .last)
 
 abbrev pub takenAs : List Number → Taken
-takenAs l = record { last = pad 8 rules.untaken l; used = length l }
+takenAs l = record { last = pad mostActors rules.untaken l; used = length l }
 
 -- ---- the durable part, and what is stored: all zero where nothing is
 abbrev pub durableView : Durable → rules.Durable
@@ -60,14 +61,18 @@ storedAs (some d) = record { some = true; durable = durableAs d }
 unfoldable pub blankPending : Pending → Bool
 blankPending q = every (eqb (q .number .0) 0 ∷ eqb (q .dst .0) 0 ∷ eqb (q .payload .0) 0 ∷ [])
 
+-- A place for a record: zero where it is free.
+abbrev pub pendingPasses : Bool → ℕ → Pending → Bool
+pendingPasses free next q = choose free (blankPending q) (pendingOk next q)
+
 unfoldable pub blankNumber : Number → Bool
 blankNumber n = eqb (n .0) 0
 
 unfoldable pub pendingsLaid : Pendings → Bool
-pendingsLaid p = every (leb (p .used) 32 ∷ all blankPending (drop (p .used) (p .records)) ∷ [])
+pendingsLaid p = every (leb (p .used) mostPending ∷ all blankPending (drop (p .used) (p .records)) ∷ [])
 
 unfoldable pub takenLaid : Taken → Bool
-takenLaid t = every (leb (t .used) 8 ∷ all blankNumber (drop (t .used) (t .last)) ∷ [])
+takenLaid t = every (leb (t .used) mostActors ∷ all blankNumber (drop (t .used) (t .last)) ∷ [])
 
 unfoldable pub durableLaid : Durable → Bool
 durableLaid d = every (pendingsLaid (d .pending) ∷ takenLaid (d .taken) ∷ [])

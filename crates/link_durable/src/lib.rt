@@ -1,5 +1,7 @@
 // The link's durable part: ordered arrays in structs with a count, what is done to them, and the tests of any content.
 use types::Id;
+use types::MOST_ACTORS;
+use types::MOST_PENDING;
 use types::Number;
 use types::Payload;
 use types::Pending;
@@ -11,20 +13,23 @@ ghost use Prim.Native.Nat.{_≤_, _<_};
 ghost use lib.ListN.{take, drop};
 ghost use lib.Dec.{leb, eqb};
 ghost use Rattle.lists.specs.Lists.{all, chain, endsIn, lead, shrink};
+ghost use Rattle.types.specs.Capacities.{mostPending, mostActors};
 ghost use Rattle.rules.specs.Outcome.{base};
 ghost use Rattle.rules.specs.Link.{fresh, durableOf, lastOf, lastTaken, noteTaken, withTaken, without, acked, posting, withInner};
-ghost use Rattle.rules.specs.WellFormed.{pendingOk, byNumber, durableOk};
-ghost use Rattle.link_durable.specs.Views.{zeroPending, pendingList, pendingsOf, otherNumber, takenList, takenAs, durableView, durableAs, storedView, blankPending, blankNumber, pendingsLaid, takenLaid, durableLaid, unsaved, blankDurable, storedLaid, durableFine, storedFine};
+ghost use Rattle.rules.specs.WellFormed.{byNumber, durableOk};
+ghost use Rattle.link_durable.specs.Views.{zeroPending, pendingList, pendingsOf, otherNumber, takenList, takenAs, durableView, durableAs, storedView};
+ghost use Rattle.link_durable.specs.Views.{blankPending, pendingPasses, pendingsLaid, takenLaid, durableLaid, unsaved, blankDurable, storedLaid};
+ghost use Rattle.link_durable.specs.Views.{durableFine, storedFine};
 
 // Messages sent and not acked, ascending by number. Places from the used count on are zero.
 pub struct Pendings {
-    pub records: [Pending; 32],
+    pub records: [Pending; MOST_PENDING],
     pub used: usize,
 }
 
 // At place s the number last taken from source s. Places from the used count on are zero.
 pub struct Taken {
-    pub last: [Number; 8],
+    pub last: [Number; MOST_ACTORS],
     pub used: usize,
 }
 
@@ -59,8 +64,8 @@ fn has_number(q: Pending, n: Number) -> bool
 }
 
 // How many leading records have another number: the place of the one that has it, or the count.
-fn pending_place(records: [Pending; 32], used: usize, n: Number) -> usize
-    requires { ⌜ used ≤ 32 ⌝ }
+fn pending_place(records: [Pending; MOST_PENDING], used: usize, n: Number) -> usize
+    requires { ⌜ used ≤ mostPending ⌝ }
     ensures { λ r. ⌜ r ≡ lead (otherNumber n) (take used records) ⌝ }
 {
     let mut i = 0;
@@ -75,8 +80,8 @@ fn pending_place(records: [Pending; 32], used: usize, n: Number) -> usize
 }
 
 // The array without what stands at the place. What stood after it goes one place down, and the place that is freed is zero.
-fn remove_at(records: [Pending; 32], used: usize, at: usize) -> [Pending; 32]
-    requires { ⌜ (at < used) × (used ≤ 32) ⌝ }
+fn remove_at(records: [Pending; MOST_PENDING], used: usize, at: usize) -> [Pending; MOST_PENDING]
+    requires { ⌜ (at < used) × (used ≤ mostPending) ⌝ }
     ensures { λ r. ⌜ r ≡ shrink used at zeroPending records ⌝ }
 {
     let mut es = records;
@@ -109,7 +114,7 @@ fn remove_pending(p: Pendings, n: Number) -> Pendings
 
 // A message becomes pending.
 fn append_pending(p: Pendings, q: Pending) -> Pendings
-    requires { ⌜ (pendingsLaid p ≡ true) × (p .used < 32) ⌝ }
+    requires { ⌜ (pendingsLaid p ≡ true) × (p .used < mostPending) ⌝ }
     ensures { λ r. ⌜ r ≡ pendingsOf (pendingList p ++ q ∷ []) ⌝ }
 {
     let used = p.used;
@@ -128,7 +133,7 @@ fn last_of(t: Taken, s: Id) -> Number
     ensures { λ r. ⌜ r ≡ lastOf s (takenList t) ⌝ }
 {
     let i = s.0 as usize;
-    if i < 8 {
+    if i < MOST_ACTORS {
         return t.last[i];
     }
     Number(0)
@@ -136,7 +141,7 @@ fn last_of(t: Taken, s: Id) -> Number
 
 // A number is taken from a source.
 fn note_taken(t: Taken, s: Id, n: Number) -> Taken
-    requires { ⌜ (takenLaid t ≡ true) × (s .0 < 8) ⌝ }
+    requires { ⌜ (takenLaid t ≡ true) × (s .0 < mostActors) ⌝ }
     ensures { λ r. ⌜ r ≡ takenAs (noteTaken s n (takenList t)) ⌝ }
 {
     let i = s.0 as usize;
@@ -164,11 +169,11 @@ pub fn fresh_durable() -> Durable
     Durable {
         next: Number(1),
         pending: Pendings {
-            records: [z; 32],
+            records: [z; MOST_PENDING],
             used: 0,
         },
         taken: Taken {
-            last: [Number(0); 8],
+            last: [Number(0); MOST_ACTORS],
             used: 0,
         },
         inner: Storage::Nothing,
@@ -196,7 +201,7 @@ pub fn last_taken(d: Durable, s: Id) -> Number
 
 // Number n is taken from source s.
 pub fn take_number(d: Durable, s: Id, n: Number) -> Durable
-    requires { ⌜ (durableLaid d ≡ true) × (s .0 < 8) ⌝ }
+    requires { ⌜ (durableLaid d ≡ true) × (s .0 < mostActors) ⌝ }
     ensures { λ r. ⌜ r ≡ durableAs (withTaken s n (durableView d)) ⌝ }
 {
     let t = d.taken;
@@ -232,7 +237,7 @@ pub fn drop_acked(d: Durable, n: Number) -> Durable
 
 // A message to r takes the next number and becomes pending.
 pub fn post(d: Durable, r: Id, p: Payload) -> Durable
-    requires { ⌜ (durableLaid d ≡ true) × (d .pending .used < 32) × (d .next .0 < 18446744073709551615) ⌝ }
+    requires { ⌜ (durableLaid d ≡ true) × (d .pending .used < base .limits .pending) × (d .next .0 < base .limits .numbers) ⌝ }
     ensures { λ x. ⌜ x ≡ durableAs (posting r p (durableView d)) ⌝ }
 {
     let next = d.next;
@@ -282,16 +287,29 @@ fn blank_pending(q: Pending) -> bool
     q.payload.0 == 0
 }
 
-// Places from the used count on are zero.
-fn pendings_rest(p: Pendings) -> bool
-    requires { ⌜ p .used ≤ 32 ⌝ }
-    ensures { λ x. ⌜ x ≡ all blankPending (drop (p .used) (p .records)) ⌝ }
+// A place for a record: zero where it is free. A used one has a number of 1 or more, below the next one.
+fn pending_passes(free: bool, next: u64, q: Pending) -> bool
+    ensures { λ x. ⌜ x ≡ pendingPasses free next q ⌝ }
+{
+    if free {
+        return blank_pending(q);
+    }
+    if q.number.0 < 1 {
+        return false;
+    }
+    q.number.0 < next
+}
+
+// The places from one up to another: free, or used.
+fn pendings_pass(p: Pendings, free: bool, next: u64, from: usize, to: usize) -> bool
+    requires { ⌜ to ≤ mostPending ⌝ }
+    ensures { λ x. ⌜ x ≡ all (pendingPasses free next) (drop from (take to (p .records))) ⌝ }
 {
     let records = p.records;
-    let mut i = p.used;
-    while i < 32 {
+    let mut i = from;
+    while i < to {
         let here = records[i];
-        if !blank_pending(here) {
+        if !pending_passes(free, next, here) {
             return false;
         }
         i += 1;
@@ -302,19 +320,23 @@ fn pendings_rest(p: Pendings) -> bool
 fn pendings_laid(p: Pendings) -> bool
     ensures { λ x. ⌜ x ≡ pendingsLaid p ⌝ }
 {
-    if 32 < p.used {
+    let used = p.used;
+    if MOST_PENDING < used {
         return false;
     }
-    pendings_rest(p)
+    pendings_pass(p, true, 0, used, MOST_PENDING)
 }
 
-fn taken_rest(t: Taken) -> bool
-    requires { ⌜ t .used ≤ 8 ⌝ }
-    ensures { λ x. ⌜ x ≡ all blankNumber (drop (t .used) (t .last)) ⌝ }
+fn taken_laid(t: Taken) -> bool
+    ensures { λ x. ⌜ x ≡ takenLaid t ⌝ }
 {
+    let used = t.used;
+    if MOST_ACTORS < used {
+        return false;
+    }
     let last = t.last;
-    let mut i = t.used;
-    while i < 8 {
+    let mut i = used;
+    while i < MOST_ACTORS {
         let here = last[i];
         if here.0 != 0 {
             return false;
@@ -322,15 +344,6 @@ fn taken_rest(t: Taken) -> bool
         i += 1;
     }
     true
-}
-
-fn taken_laid(t: Taken) -> bool
-    ensures { λ x. ⌜ x ≡ takenLaid t ⌝ }
-{
-    if 8 < t.used {
-        return false;
-    }
-    taken_rest(t)
 }
 
 fn durable_laid(d: Durable) -> bool
@@ -344,36 +357,9 @@ fn durable_laid(d: Durable) -> bool
     taken_laid(t)
 }
 
-// A pending number is 1 or more, and below the next one.
-fn pending_ok(next: u64, q: Pending) -> bool
-    ensures { λ x. ⌜ x ≡ pendingOk next q ⌝ }
-{
-    if q.number.0 < 1 {
-        return false;
-    }
-    q.number.0 < next
-}
-
-fn pendings_ok(p: Pendings, next: u64) -> bool
-    requires { ⌜ p .used ≤ 32 ⌝ }
-    ensures { λ x. ⌜ x ≡ all (pendingOk next) (pendingList p) ⌝ }
-{
-    let used = p.used;
-    let records = p.records;
-    let mut i = 0;
-    while i < used {
-        let here = records[i];
-        if !pending_ok(next, here) {
-            return false;
-        }
-        i += 1;
-    }
-    true
-}
-
 // Each number is below the next one.
 fn ascending(p: Pendings) -> bool
-    requires { ⌜ p .used ≤ 32 ⌝ }
+    requires { ⌜ p .used ≤ mostPending ⌝ }
     ensures { λ x. ⌜ x ≡ chain byNumber (pendingList p) ⌝ }
 {
     let used = p.used;
@@ -392,7 +378,7 @@ fn ascending(p: Pendings) -> bool
 
 // The last of the numbers last taken is 1 or more.
 fn ends_in_one(t: Taken) -> bool
-    requires { ⌜ t .used ≤ 8 ⌝ }
+    requires { ⌜ t .used ≤ mostActors ⌝ }
     ensures { λ x. ⌜ x ≡ endsIn (λ n. leb 1 (n .0)) (takenList t) ⌝ }
 {
     let used = t.used;
@@ -414,7 +400,7 @@ fn durable_formed(d: Durable, actors: usize) -> bool
     if next.0 < 1 {
         return false;
     }
-    if !pendings_ok(p, next.0) {
+    if !pendings_pass(p, false, next.0, 0, p.used) {
         return false;
     }
     if !ascending(p) {

@@ -1,4 +1,4 @@
--- No second answer fits what a handler promises.
+-- No second answer fits what a handler promises: the promise is an equation, and holds for actor 0 too.
 -- Assumes nothing.
 use Prim.Native.Nat.{ℕ}
 use mathlib.Core.Path.{_≡_}

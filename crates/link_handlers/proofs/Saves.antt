@@ -1,4 +1,5 @@
--- Nothing is lost by a Save without content: every Save of a handler saves the durable part of the answered link.
+-- Nothing is lost by a Save without content: every Save of a handler saves the durable part of the answered link, since a Save comes
+-- after all that changes it.
 -- Assumes nothing.
 use Prim.Native.Nat.{ℕ}
 use mathlib.Core.Path.{_≡_, refl, ap, ap₂, _∙_}
@@ -6,6 +7,7 @@ use mathlib.Core.Bool.{Bool, true, false}
 use mathlib.Core.Option.{Option}
 use mathlib.Core.List.{List, [], _∷_, _++_, map, map-append}
 use Rattle.lists.specs.Lists.{choose, any}
+use Rattle.types.specs.Capacities.{network}
 use Rattle.types.specs.declared.Id.{Id}
 use Rattle.types.specs.declared.Message.{Message}
 use Rattle.types.specs.declared.Message.the-variants.{Deliver, Ack}
@@ -69,11 +71,14 @@ module _ (c : Limits) (i : Id) where
   process-alike d (inner.SetTimer t ∷ os) = holds-bind _ _ (process-alike d os) (λ o z. holds-done (λ e. alike-set e t _ (z e)))
   process-alike d (inner.CancelTimer t ∷ os) = holds-bind _ _ (process-alike d os) (λ o z. holds-done (λ e. alike-cancel e t _ (z e)))
   process-alike d (inner.Save v ∷ os) = process-alike (rules.withInner v d) os
-  process-alike d (inner.Send r p ∷ os) = holds-guard _ _ _ (λ a. holds-guard _ _ _ (λ b. holds-bind _ _ (process-alike (rules.posting r p d) os) (λ o z. holds-done (λ e. alike-send e r _ _ (z e)))))
+  process-alike d (inner.Send r p ∷ os) =
+      holds-guard _ _ _ (λ a. holds-guard _ _ _
+      (λ b. holds-bind _ _ (process-alike (rules.posting r p d) os) (λ o z. holds-done (λ e. alike-send e r _ _ (z e)))))
 
   output-alike : (d : rules.Durable) (os : List InnerCommand) → Holds (λ o. Alike (o .durable) (o .commands)) (rules.output c i d os)
   unfolding rules.output rules.thenSave choose
-  output-alike d os = holds-bind _ _ (process-alike d os) (λ o z. holds-done (alike-append (o .durable) _ _ (z (o .durable)) (last (o .durable) (any rules.durably os))))
+  output-alike d os =
+      holds-bind _ _ (process-alike d os) (λ o z. holds-done (alike-append (o .durable) _ _ (z (o .durable)) (last (o .durable) (any rules.durably os))))
     where
       last : (e : rules.Durable) (b : Bool) → Alike e (choose b (rules.Save e ∷ []) [])
       last e true = alike-save e
@@ -81,7 +86,7 @@ module _ (c : Limits) (i : Id) where
 
   pub start-tells : (rs : List Rule) (st : Option rules.Durable) → Holds (λ h. Alike (h .link .durable) (h .commands)) (rules.onStart c i rs st)
   unfolding rules.onStart rules.starting rules.startedBy
-  start-tells rs st = holds-bind _ _ (output-alike _ _) (λ o z. holds-done (alike-set _ 31 _ z))
+  start-tells rs st = holds-bind _ _ (output-alike _ _) (λ o z. holds-done (alike-set _ network _ z))
 
   pub msg-tells : (rs : List Rule) (l : rules.Link) (s : Id) (m : Message) → Holds (λ h. Alike (h .link .durable) (h .commands)) (rules.onMsg c i rs l s m)
   unfolding rules.onMsg rules.handing rules.acking rules.takenBy rules.ackedBy
@@ -92,13 +97,14 @@ module _ (c : Limits) (i : Id) where
 
   pub timeout-tells : (rs : List Rule) (l : rules.Link) (t : ℕ) → Holds (λ h. Alike (h .link .durable) (h .commands)) (rules.onTimeout c i rs l t)
   unfolding rules.onTimeout rules.resending rules.timing rules.idling rules.timedBy
-  timeout-tells rs l t = holds-choose _ _ _ (λ _. holds-done (alike-set _ 31 _ (alike-resent _ (l .durable .pending))))
+  timeout-tells rs l t = holds-choose _ _ _ (λ _. holds-done (alike-set _ network _ (alike-resent _ (l .durable .pending))))
       (λ _. holds-choose _ _ _ (λ _. holds-done (alike-nil _)) (λ _. holds-bind _ _ (output-alike _ _) (λ o z. holds-done z)))
 
 -- So the answered struct tells the commands of the rules, with their content.
 pub told-back : (l : Link) (h : rules.Did) → Alike (h .link .durable) (h .commands) → toldBy (didAs l (done h)) ≡ h .commands
 told-back l h a =
-    ap₂ (λ (d : rules.Durable) (k : List LinkCommand). map (commandView d) k) (durable-back (h .link .durable)) (commands-back (map commandAs (h .commands))) ∙ a .same
+    ap₂ (λ (d : rules.Durable) (k : List LinkCommand). map (commandView d) k) (durable-back (h .link .durable)) (commands-back (map commandAs (h .commands)))
+    ∙ a .same
 
 pub link-back : (l : rules.Link) → linkView (linkAs l) ≡ l
 link-back l = let e = durable-back (l .durable) in λ i. record { durable = e i; state = l .state }

@@ -2,8 +2,9 @@
 -- Assumes nothing.
 use Prim.Native.Nat.{ℕ}
 use mathlib.Core.Path.{_≡_}
-use mathlib.Core.Bool.{false}
+use mathlib.Core.Bool.{true, false}
 use mathlib.Core.List.{List, [], map}
+use Rattle.lists.specs.Lists.{choose}
 use Rattle.types.specs.declared.Id.{Id}
 use Rattle.types.specs.declared.Message.{Message}
 use Rattle.answers.specs.Answers.{answerOf}
@@ -15,7 +16,7 @@ use Rattle.link_durable.specs.declared.Stored.{Stored}
 use Rattle.link_durable.specs.Views.{durableView, durableAs, storedView}
 use Rattle.link_output.specs.Views.{commandsIn, commandsOf, commandAs, commandView}
 use Rattle.link_handlers.specs.declared.Link.{Link}
-use Rattle.link_output.specs.declared.LinkCommand.the-variants.{Save}
+use Rattle.link_output.specs.declared.Output.{Output}
 use Rattle.link_handlers.specs.declared.Did.{Did}
 
 -- ---- the link
@@ -33,6 +34,12 @@ toldBy h = map (commandView (durableView (h .link .durable))) (commandsIn (h .co
 abbrev pub didAs : Link → Outcome rules.Did → Did
 didAs l (done h) = record { answer = answerOf 0; link = linkAs (h .link); touched = h .touched; commands = commandsOf (map commandAs (h .commands)) }
 didAs l (refused n) = record { answer = answerOf n; link = l; touched = false; commands = commandsOf [] }
+
+-- What is made of an output y: the refusal, or the link that it leaves, in the state s.
+abbrev pub concluded : Link → Output → ℕ → Did
+concluded l y s = choose (y .going)
+    (record { answer = answerOf 0; link = record { durable = y .durable; state = s }; touched = true; commands = y .commands })
+    (record { answer = y .answer; link = l; touched = false; commands = commandsOf [] })
 
 -- The link that a start sets out with.
 abbrev pub startLink : Stored → Link

@@ -1,39 +1,48 @@
--- The rules that a table holds, the struct of a reply, and the whole test of a table.
+-- The rules that a table holds, and the whole test of a table.
 -- Assumes nothing.
 use Prim.Native.Nat.{ℕ}
-use mathlib.Core.Bool.{Bool, not}
-use mathlib.Core.List.{List, [], _∷_, map}
-use lib.ListN.{length, take, drop}
+use mathlib.Core.Bool.{Bool, false, not}
+use mathlib.Core.List.{List, [], _∷_}
+use lib.ListN.{take, drop, replicate}
 use lib.Dec.{leb, eqb}
-use Rattle.lists.specs.Lists.{all, every, pad}
-use Rattle.types.specs.declared.InnerCommand.{InnerCommand}
-use Rattle.types.specs.declared.InnerCommand.the-variants.{SetTimer}
+use Rattle.lists.specs.Lists.{choose, all, every}
+use Rattle.types.specs.Capacities.{mostCommands, mostRules, lastState}
+use Rattle.types.specs.declared.RuleCommand.{RuleCommand}
+use Rattle.types.specs.declared.Slot.{Slot}
 use Rattle.types.specs.declared.Rule.{Rule}
-use Rattle.rules.specs.Inner.{Reply, matches}
-use Rattle.rules.specs.WellFormed.{unused, sound}
+use Rattle.rules.specs.Inner.{zeroSlot}
+use Rattle.rules.specs.WellFormed.{commandOk, zeroCommand, unused, ruleOk, sound}
 use Rattle.link_inner.specs.declared.Table.{Table}
-use Rattle.link_inner.specs.declared.InnerSlot.{InnerSlot}
-use Rattle.link_inner.specs.declared.Reaction.{Reaction}
 
 abbrev pub rulesOf : Table → List Rule
 rulesOf t = take (t .used) (t .rules)
 
-abbrev pub mismatches : ℕ → ℕ → ℕ → Rule → Bool
-mismatches event state value r = not (matches event state value r)
+-- ---- a place for a command in a rule for this event: zero where it is free
+abbrev pub commandPasses : Bool → ℕ → RuleCommand → Bool
+commandPasses free event c = choose free (zeroCommand c) (commandOk event c)
 
-abbrev pub slot : InnerCommand → InnerSlot
-slot c = record { command = c }
+abbrev pub slotPasses : Bool → ℕ → Slot → Bool
+slotPasses free event s = commandPasses free event (s .command)
 
--- The commands in their 4 places; the others are zero.
-abbrev pub slotsOf : List InnerCommand → List InnerSlot
-slotsOf l = pad 4 (slot (SetTimer 0)) (map slot l)
+-- ---- a place for a rule
+-- The numbers are in script range, and low is at most high.
+abbrev pub rangeTests : Rule → List Bool
+rangeTests r = leb (r .event) 3 ∷ leb (r .state) lastState ∷ leb (r .next) lastState ∷ leb (r .used) mostCommands ∷ leb (r .low) (r .high) ∷ []
 
-abbrev pub reactionOf : Reply → Reaction
-reactionOf r = record { touched = r .touched; state = r .state; commands = slotsOf (r .out); used = length (r .out) }
+unfoldable pub ranges : Rule → Bool
+ranges r = every (rangeTests r)
 
--- What a reaction says: the used ones of its 4 places.
-abbrev pub replyOf : Reaction → Reply
-replyOf r = record { touched = r .touched; state = r .state; out = map (λ (s : InnerSlot). s .command) (take (r .used) (r .commands)) }
+abbrev pub zeroRule : Rule
+zeroRule = record {
+  event = 0;
+  state = 0;
+  low = 0;
+  high = 0;
+  touched = false;
+  next = 0;
+  commands = replicate mostCommands zeroSlot;
+  used = 0;
+}
 
 -- A rule that is not used is all zero.
 unfoldable pub blankRule : Rule → Bool
@@ -41,6 +50,9 @@ blankRule r = every
     (eqb (r .event) 0 ∷ eqb (r .state) 0 ∷ eqb (r .low) 0 ∷ eqb (r .high) 0 ∷ not (r .touched)
     ∷ eqb (r .next) 0 ∷ eqb (r .used) 0 ∷ all unused (r .commands) ∷ [])
 
+abbrev pub rulePasses : Bool → Rule → Bool
+rulePasses free r = choose free (blankRule r) (ruleOk r)
+
 -- The count fits, the places that are not used are zero, and the rules are sound.
 unfoldable pub tableOk : Table → Bool
-tableOk t = every (leb (t .used) 16 ∷ all blankRule (drop (t .used) (t .rules)) ∷ sound (rulesOf t) ∷ [])
+tableOk t = every (leb (t .used) mostRules ∷ all blankRule (drop (t .used) (t .rules)) ∷ sound (rulesOf t) ∷ [])

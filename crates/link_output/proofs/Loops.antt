@@ -1,4 +1,4 @@
--- The commands of a reaction, place by place.
+-- The commands of a reaction, place by place: what is left from place i on is the command there and what is left from the next.
 -- Assumes nothing.
 use Prim.Native.Nat.{ℕ, suc, _+_, _≤_, _<_}
 use native.Mathlib.Numerals.{add-one}
@@ -8,14 +8,15 @@ use mathlib.Core.List.{List, [], _∷_, map}
 use lib.ListN.{length, take, drop, getD, drop-of-length-le}
 use lib.Seq.{length-take-le, drop-cons, getD-take}
 use Rattle.types.specs.declared.InnerCommand.{InnerCommand}
-use Rattle.link_inner.specs.declared.InnerSlot.{InnerSlot}
+use Rattle.link_react.specs.declared.InnerSlot.{InnerSlot}
 use Rattle.link_output.proofs.Outputs.{outside}
 
 -- the commands that a reaction has still to tell
 abbrev pub tellings : List InnerSlot → List InnerCommand
 tellings l = map (λ (s : InnerSlot). s .command) l
 
-pub next-told : (told : List InnerSlot) (used i : ℕ) → used ≤ length told → i < used → tellings (drop i (take used told)) ≡ getD told i outside .command ∷ tellings (drop (i + 1) (take used told))
+pub next-told : (told : List InnerSlot) (used i : ℕ) → used ≤ length told → i < used
+    → tellings (drop i (take used told)) ≡ getD told i outside .command ∷ tellings (drop (i + 1) (take used told))
 next-told told used i h k =
     let n = length-take-le used told h in
     rw add-one (ap tellings (drop-cons (take used told) i outside (omega arith))

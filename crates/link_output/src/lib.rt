@@ -7,9 +7,11 @@ use link_durable::Durable;
 use link_durable::fresh_durable;
 use link_durable::post;
 use link_durable::save_value;
-use link_inner::Reaction;
+use link_react::Reaction;
 use types::Id;
 use types::InnerCommand;
+use types::MOST_PENDING;
+use types::MOST_TOLD;
 use types::Message;
 use types::Payload;
 ghost use mathlib.Core.Path.{_≡_};
@@ -17,15 +19,16 @@ ghost use mathlib.Core.Bool.{true, false};
 ghost use mathlib.Core.List.{_++_, _∷_, []};
 ghost use Prim.Native.Nat.{_≤_, _<_};
 ghost use Rattle.lists.specs.Lists.{any};
+ghost use Rattle.types.specs.Capacities.{mostTold, mostCommands};
 ghost use Rattle.types.specs.declared.Id.{Id};
 ghost use Rattle.types.specs.declared.Payload.{Payload};
 ghost use Rattle.answers.specs.declared.Answer.the-variants.{Done};
 ghost use Rattle.types.specs.declared.InnerCommand.the-variants as inner;
 ghost use Rattle.rules.specs.Outcome.{base};
 ghost use Rattle.rules.specs.Link as rules;
-ghost use Rattle.link_inner.specs.Views.{replyOf};
+ghost use Rattle.link_react.specs.Views.{replyOf};
 ghost use Rattle.link_durable.specs.Views.{durableView, durableAs};
-ghost use Rattle.link_output.specs.Views.{commandsIn, commandsOf, outputAs, Outputs, Whole};
+ghost use Rattle.link_output.specs.Views.{commandsIn, commandsOf, outputAs, savedAs, Outputs, Whole};
 
 // An enum cannot hold an array, so a Save has no content: it saves the durable part of the answered link.
 pub enum LinkCommand {
@@ -39,9 +42,10 @@ pub struct CommandSlot {
     pub command: LinkCommand,
 }
 
-// In the order in which they run. Places from the used count on are zero: set timer 0.
+// In the order in which they run. Places from the used count on are zero: set timer 0. The longest list has set Network and every
+// pending message. An output has fewer: one command before it, those of a rule, and two Saves.
 pub struct Commands {
-    pub list: [CommandSlot; 33],
+    pub list: [CommandSlot; MOST_TOLD],
     pub used: usize,
 }
 
@@ -60,14 +64,14 @@ pub fn no_commands() -> Commands
     Commands {
         list: [CommandSlot {
             command: LinkCommand::Set(0),
-        }; 33],
+        }; MOST_TOLD],
         used: 0,
     }
 }
 
 // One more command.
 pub fn push(cs: Commands, c: LinkCommand) -> Commands
-    requires { ⌜ (cs ≡ commandsOf (commandsIn cs)) × (cs .used < 33) ⌝ }
+    requires { ⌜ (cs ≡ commandsOf (commandsIn cs)) × (cs .used < mostTold) ⌝ }
     ensures { λ r. ⌜ r ≡ commandsOf (commandsIn cs ++ c ∷ []) ⌝ }
 {
     let used = cs.used;
@@ -77,6 +81,14 @@ pub fn push(cs: Commands, c: LinkCommand) -> Commands
         list: list,
         used: used + 1,
     }
+}
+
+// One command and no other.
+pub fn one_command(c: LinkCommand) -> Commands
+    ensures { λ r. ⌜ r ≡ commandsOf (c ∷ []) ⌝ }
+{
+    let none = no_commands();
+    push(none, c)
 }
 
 // ---- inner output, in order
@@ -106,12 +118,12 @@ fn stopped(answer: Answer) -> Output
 
 // A Send takes the next number, sends, and becomes pending: 6 before 7.
 fn send_one(d: Durable, cs: Commands, r: Id, p: Payload) -> Output
-    requires { ⌜ Whole d × (cs ≡ commandsOf (commandsIn cs)) × (cs .used < 33) ⌝ }
+    requires { ⌜ Whole d × (cs ≡ commandsOf (commandsIn cs)) × (cs .used < mostTold) ⌝ }
     ensures { λ x. ⌜ ((i : Id) → x ≡ outputAs (commandsIn cs) (rules.process (base .limits) i (durableView d) (inner.Send r p ∷ []))) ⌝ }
 {
     let next = d.next;
     let six = refused_unless(next.0 < 18446744073709551615, Answer::NumbersUsedUp);
-    let seven = refused_unless(d.pending.used < 32, Answer::PendingFull);
+    let seven = refused_unless(d.pending.used < MOST_PENDING, Answer::PendingFull);
     let refusal = first_refusal(six, seven);
     match refusal {
         Refusal::Because(answer) => stopped(answer),
@@ -125,7 +137,7 @@ fn send_one(d: Durable, cs: Commands, r: Id, p: Payload) -> Output
 
 // One command of the inner actor.
 fn process_one(d: Durable, cs: Commands, c: InnerCommand) -> Output
-    requires { ⌜ Whole d × (cs ≡ commandsOf (commandsIn cs)) × (cs .used < 33) ⌝ }
+    requires { ⌜ Whole d × (cs ≡ commandsOf (commandsIn cs)) × (cs .used < mostTold) ⌝ }
     ensures { λ x. ⌜ ((i : Id) → x ≡ outputAs (commandsIn cs) (rules.process (base .limits) i (durableView d) (c ∷ []))) ⌝ }
 {
     match c {
@@ -147,7 +159,7 @@ fn process_one(d: Durable, cs: Commands, c: InnerCommand) -> Output
 
 // All commands of a reaction.
 fn process(d: Durable, cs: Commands, r: Reaction) -> Output
-    requires { ⌜ Whole d × (cs ≡ commandsOf (commandsIn cs)) × (cs .used ≤ 1) × (r .used ≤ 4) ⌝ }
+    requires { ⌜ Whole d × (cs ≡ commandsOf (commandsIn cs)) × (cs .used ≤ 1) × (r .used ≤ mostCommands) ⌝ }
     ensures { λ x. ⌜ ((i : Id) → x ≡ outputAs (commandsIn cs) (rules.process (base .limits) i (durableView d) (replyOf r .out))) ⌝ }
 {
     let used = r.used;
@@ -182,7 +194,7 @@ fn is_durable(c: InnerCommand) -> bool
 
 // Whether there is any Send or Save.
 fn saves(r: Reaction) -> bool
-    requires { ⌜ r .used ≤ 4 ⌝ }
+    requires { ⌜ r .used ≤ mostCommands ⌝ }
     ensures { λ x. ⌜ x ≡ any rules.durably (replyOf r .out) ⌝ }
 {
     let used = r.used;
@@ -199,20 +211,28 @@ fn saves(r: Reaction) -> bool
     false
 }
 
-// The output of a reaction, saved once after all of it if there was any Send or Save.
-pub fn output_of(d: Durable, cs: Commands, r: Reaction) -> Output
-    requires { ⌜ Whole d × (cs ≡ commandsOf (commandsIn cs)) × (cs .used ≤ 1) × (r .used ≤ 4) ⌝ }
-    ensures { λ x. ⌜ Outputs d cs r x ⌝ }
+// An output, and behind it the Save of what it leaves, where it goes on.
+pub fn saved(o: Output) -> Output
+    requires { ⌜ (o .commands ≡ commandsOf (commandsIn (o .commands))) × (o .commands .used < mostTold) ⌝ }
+    ensures { λ x. ⌜ x ≡ savedAs o ⌝ }
 {
-    let o = process(d, cs, r);
     if !o.going {
         return o;
     }
+    let e = o.durable;
+    let out = o.commands;
+    let more = push(out, LinkCommand::Save);
+    going_on(e, more)
+}
+
+// The output of a reaction, saved once after all of it if there was any Send or Save.
+pub fn output_of(d: Durable, cs: Commands, r: Reaction) -> Output
+    requires { ⌜ Whole d × (cs ≡ commandsOf (commandsIn cs)) × (cs .used ≤ 1) × (r .used ≤ mostCommands) ⌝ }
+    ensures { λ x. ⌜ Outputs d cs r x ⌝ }
+{
+    let o = process(d, cs, r);
     if saves(r) {
-        let e = o.durable;
-        let out = o.commands;
-        let more = push(out, LinkCommand::Save);
-        return going_on(e, more);
+        return saved(o);
     }
     o
 }

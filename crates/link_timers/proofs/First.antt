@@ -13,7 +13,7 @@ use borrow.Author.Tests.{lt-ltb, le-leb, lt-leb}
 use Rattle.lists.specs.Lists.{choose}
 use Rattle.link_timers.specs.declared.Found.{Found}
 use Rattle.link_timers.specs.declared.Found.the-variants.{Timer, Nothing}
-use Rattle.link_timers.specs.Views.{listedFrom, listed, firstFrom}
+use Rattle.link_timers.specs.Views.{bits, listedFrom, listed, firstFrom}
 use Rattle.link_timers.proofs.Listed.{half-shr, low-lt}
 
 -- What z trailing zeros among d digits say, where the lowest digit has the place k.
@@ -31,17 +31,18 @@ first-above zero k x f h = refl
 first-above (suc d) k x f h =
     past-digit (eqb (x % 2) 1) f k (listedFrom d (suc k) (x / 2)) (omega arith) ∙ first-above d (suc k) (x / 2) f (omega arith)
 
--- No timer above 31 is found.
-pub first-none : (x f : ℕ) → 32 ≤ f → firstFrom f (listed x) ≡ Nothing
+-- No timer above Network is found.
+pub first-none : (x f : ℕ) → bits ≤ f → firstFrom f (listed x) ≡ Nothing
 unfolding listed
-first-none x f h = first-above 32 0 x f (omega arith)
+first-none x f h = first-above bits 0 x f (omega arith)
 
 found-up : (d k z : ℕ) → foundAt d (suc k) z ≡ foundAt (suc d) k (suc z)
 found-up d k z =
     ap (λ (b : Bool). choose b (Timer (suc k + z)) Nothing) (sym (leb·suc-suc (suc z) d))
     ∙ ap (λ (n : ℕ). choose (ltb (suc z) (suc d)) (Timer n) Nothing) (omega arith)
 
-first-digit : (d f k b z : ℕ) (ts : List ℕ) → b < 2 → f ≤ k → firstFrom f ts ≡ foundAt d (suc k) z → firstFrom f (choose (eqb b 1) (k ∷ []) [] ++ ts) ≡ foundAt (suc d) k (under b z)
+first-digit : (d f k b z : ℕ) (ts : List ℕ) → b < 2 → f ≤ k → firstFrom f ts ≡ foundAt d (suc k) z
+    → firstFrom f (choose (eqb b 1) (k ∷ []) [] ++ ts) ≡ foundAt (suc d) k (under b z)
 unfolding choose firstFrom
 first-digit d f k zero z ts l h e = e ∙ found-up d k z
 first-digit d f k (suc zero) z ts l h e = rw (le-leb f k h, lt-ltb 0 (suc d) (omega arith)) (ap Timer (sym (add-zero k)))
@@ -73,9 +74,10 @@ first-from (suc d) k x (suc j) f e =
     ∙ ap (λ (n : ℕ). foundAt (suc d) k (suc (trailingZeros d (n * 2 ^ j)))) (half-shr x j)
     ∙ ap (foundAt (suc d) k) (sym (zeros-shifted d (x / 2 ^ suc j) j))
 
--- The trailing zeros of the word without the timers below f are the timer found, where they are below 32.
-pub first-zeros : (x f : ℕ) → firstFrom f (listed x) ≡ choose (ltb (trailingZeros 32 (x / 2 ^ f * 2 ^ f)) 32) (Timer (trailingZeros 32 (x / 2 ^ f * 2 ^ f))) Nothing
+-- The trailing zeros of the word without the timers below f are the timer found, where they are fewer than the bits.
+pub first-zeros : (x f : ℕ) → firstFrom f (listed x)
+    ≡ choose (ltb (trailingZeros bits (x / 2 ^ f * 2 ^ f)) bits) (Timer (trailingZeros bits (x / 2 ^ f * 2 ^ f))) Nothing
 unfolding listed
 first-zeros x f =
-    first-from 32 0 x f f (sym (zero-add f))
-    ∙ ap (λ (n : ℕ). choose (ltb (trailingZeros 32 (x / 2 ^ f * 2 ^ f)) 32) (Timer n) Nothing) (zero-add (trailingZeros 32 (x / 2 ^ f * 2 ^ f)))
+    first-from bits 0 x f f (sym (zero-add f))
+    ∙ ap (λ (n : ℕ). choose (ltb (trailingZeros bits (x / 2 ^ f * 2 ^ f)) bits) (Timer n) Nothing) (zero-add (trailingZeros bits (x / 2 ^ f * 2 ^ f)))

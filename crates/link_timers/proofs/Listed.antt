@@ -17,10 +17,11 @@ use lib.Pow.{pow-mono, shr-lt, shr-shr}
 use borrow.Author.Tests.{ltb-true, lt-ltb, eq-eqb, ne-eqb}
 use Rattle.lists.specs.Lists.{_∈_, choose, any}
 use Rattle.lists.proofs.Chains.{First, Chain}
+use Rattle.types.specs.Capacities.{network}
 use Rattle.rules.specs.Timers.{noTimers, isSet, setTimer, cancelTimer, countTimers}
 use Rattle.rules.proofs.Timers.{TimerSet, no-timers, set-timers, cancel-timers, set-changed, cancel-changed}
 use Rattle.link_timers.specs.declared.Timers.{Timers}
-use Rattle.link_timers.specs.Views.{listedFrom, listed, wordOf, timersOf, setOf, cancelOf}
+use Rattle.link_timers.specs.Views.{bits, listedFrom, listed, wordOf, timersOf, setOf, cancelOf}
 
 pub half-lt : {x : ℕ} (d : ℕ) → x < 2 ^ suc d → x / 2 < 2 ^ d
 half-lt {x} d h = shr-lt d 1 (subst (λ (n : ℕ). x < 2 ^ n) (sym (add-one d)) h)
@@ -51,9 +52,9 @@ length-from (suc d) k x h =
     ∙ sym (ones-step x)
 
 -- As many are set as the word has ones.
-pub count-ones : (x : ℕ) → x < 2 ^ 32 → countTimers (listed x) ≡ ones x
+pub count-ones : (x : ℕ) → x < 2 ^ bits → countTimers (listed x) ≡ ones x
 unfolding listed countTimers
-count-ones x h = length-from 32 0 x h
+count-ones x h = length-from bits 0 x h
 
 -- ── Which are set ──────────────────────────────────────────────────────────────────────────────
 skip-digit : (b : Bool) (t k : ℕ) (ts : List ℕ) → (t ≡ k → ⊥) → any (eqb t) (choose b (k ∷ []) [] ++ ts) ≡ any (eqb t) ts
@@ -86,9 +87,9 @@ set-from (suc d) k x (suc j) t e h =
     ∙ ap (λ (n : ℕ). eqb (n % 2) 1) (half-shr x j)
 
 -- Timer t is set where digit t is 1.
-pub digit-set : (x t : ℕ) → t < 32 → isSet t (listed x) ≡ eqb (x / 2 ^ t % 2) 1
+pub digit-set : (x t : ℕ) → t < bits → isSet t (listed x) ≡ eqb (x / 2 ^ t % 2) 1
 unfolding listed isSet
-digit-set x t h = set-from 32 0 x t t (omega arith) h
+digit-set x t h = set-from bits 0 x t t (omega arith) h
 
 -- ── The list ascends ───────────────────────────────────────────────────────────────────────────
 -- From lo on, and below hi.
@@ -111,9 +112,9 @@ from-ascends zero k x hi h = tt
 from-ascends (suc d) k x hi h =
     digit-ascends (eqb (x % 2) 1) k hi (listedFrom d (suc k) (x / 2)) (omega arith) (from-ascends d (suc k) (x / 2) hi (omega arith))
 
-pub listed-ascends : (x : ℕ) → Ascends 0 32 (listed x)
+pub listed-ascends : (x : ℕ) → Ascends 0 bits (listed x)
 unfolding listed
-listed-ascends x = from-ascends 32 0 x 32 (omega arith)
+listed-ascends x = from-ascends bits 0 x bits (omega arith)
 
 ascends-most : (lo hi : ℕ) (ts : List ℕ) → Ascends lo hi ts → (t : ℕ) → t ∈ ts → t < hi
 ascends-most lo hi (y ∷ ys) a t (List·Memᴰ·head e) = rw e (a .1)
@@ -128,18 +129,18 @@ ascends-chain lo hi (y ∷ z ∷ zs) a = (lt-ltb y z (a .2 .0), ascends-chain (s
 -- The listed timers are a set of timers.
 pub listed-timers : (x : ℕ) → TimerSet (listed x)
 listed-timers x = record {
-  most = λ t m. let h = ascends-most 0 32 (listed x) (listed-ascends x) t m in omega arith;
-  up = ascends-chain 0 32 (listed x) (listed-ascends x);
+  most = λ t m. let h = ascends-most 0 bits (listed x) (listed-ascends x) t m in omega arith;
+  up = ascends-chain 0 bits (listed x) (listed-ascends x);
 }
 
-chain-ascends : (y : ℕ) (ys : List ℕ) → ((t : ℕ) → t ∈ ys → t ≤ 31) → First ltb y ys → Chain ltb ys → Ascends (suc y) 32 ys
+chain-ascends : (y : ℕ) (ys : List ℕ) → ((t : ℕ) → t ∈ ys → t ≤ network) → First ltb y ys → Chain ltb ys → Ascends (suc y) bits ys
 unfolding Chain First
 chain-ascends y [] m f c = tt
 chain-ascends y (z ∷ zs) m f c =
     let top = m z (List·Memᴰ·head refl) in
     (ltb-true y z f, omega arith, chain-ascends z zs (λ t k. m t (List·Memᴰ·tail k)) (c .0) (c .1))
 
-timers-ascend : (ts : List ℕ) → TimerSet ts → Ascends 0 32 ts
+timers-ascend : (ts : List ℕ) → TimerSet ts → Ascends 0 bits ts
 unfolding Chain
 timers-ascend [] h = tt
 timers-ascend (y ∷ ys) h =
@@ -152,10 +153,10 @@ length-ascends lo hi (y ∷ ys) l a =
     let rest = length-ascends (suc y) hi ys (a .1) (a .2) in
     omega arith
 
--- A set of timers has at most 32.
-pub count-small : (ts : List ℕ) → TimerSet ts → countTimers ts ≤ 32
+-- A set of timers has at most as many as the word has bits.
+pub count-small : (ts : List ℕ) → TimerSet ts → countTimers ts ≤ bits
 unfolding countTimers
-count-small ts h = omega (arith, length-ascends 0 32 ts (omega arith) (timers-ascend ts h))
+count-small ts h = omega (arith, length-ascends 0 bits ts (omega arith) (timers-ascend ts h))
 
 -- ── The word of the list is the word ───────────────────────────────────────────────────────────
 word-digit : (b k : ℕ) (ts : List ℕ) → b < 2 → wordOf (choose (eqb b 1) (k ∷ []) [] ++ ts) ≡ b * 2 ^ k + wordOf ts
@@ -176,12 +177,12 @@ word-from (suc d) k x h =
     let rest = word-from d (suc k) (x / 2) (half-lt d h) in
     omega arith
 
-pub word-listed : (x : ℕ) → x < 2 ^ 32 → wordOf (listed x) ≡ x
+pub word-listed : (x : ℕ) → x < 2 ^ bits → wordOf (listed x) ≡ x
 unfolding listed
-word-listed x h = word-from 32 0 x h ∙ mul-one x
+word-listed x h = word-from bits 0 x h ∙ mul-one x
 
 -- The set that holds a set's list is that set.
-pub timers-listed : (x : Timers) → x .0 < 2 ^ 32 → timersOf (listed (x .0)) ≡ x
+pub timers-listed : (x : Timers) → x .0 < 2 ^ bits → timersOf (listed (x .0)) ≡ x
 timers-listed x h = λ i. record { 0 = word-listed (x .0) h i }
 
 -- ── The list of a list's word is the list ──────────────────────────────────────────────────────
@@ -199,7 +200,8 @@ value-half k hi (y ∷ ys) a =
     omega arith
 
 -- The list from the place k on, by the lowest digit and the rest of the word.
-digits : (d k v w : ℕ) (ts : List ℕ) → listedFrom d (suc k) w ≡ ts → v / 2 ≡ w → (v % 2 ≡ 1 → listedFrom (suc d) k v ≡ k ∷ ts) × (v % 2 ≡ 0 → listedFrom (suc d) k v ≡ ts)
+digits : (d k v w : ℕ) (ts : List ℕ) → listedFrom d (suc k) w ≡ ts → v / 2 ≡ w
+    → (v % 2 ≡ 1 → listedFrom (suc d) k v ≡ k ∷ ts) × (v % 2 ≡ 0 → listedFrom (suc d) k v ≡ ts)
 unfolding listedFrom choose
 digits d k v w ts e h = (λ one. rw (one, h, e), λ none. rw (none, h, e))
 
@@ -230,7 +232,7 @@ word-value (y ∷ ys) = rw (sub-zero, word-value ys)
 -- The list of the set that holds a set of timers is that set of timers.
 pub listed-timers-of : (ts : List ℕ) → TimerSet ts → listed (timersOf ts .0) ≡ ts
 unfolding listed
-listed-timers-of ts h = ap (listedFrom 32 0) (word-value ts) ∙ listed-value 32 0 32 ts refl (timers-ascend ts h)
+listed-timers-of ts h = ap (listedFrom bits 0) (word-value ts) ∙ listed-value bits 0 bits ts refl (timers-ascend ts h)
 
 word-bound : (lo hi : ℕ) (ts : List ℕ) → lo ≤ hi → Ascends lo hi ts → wordOf ts + 2 ^ lo ≤ 2 ^ hi
 word-bound lo hi [] l a = omega (arith, pow-mono {i = lo} {j = hi} l)
@@ -238,9 +240,9 @@ word-bound lo hi (y ∷ ys) l a =
     let rest = word-bound (suc y) hi ys (a .1) (a .2) in
     omega (arith, pow-suc 2 y, pow-mono {i = lo} {j = y} (a .0))
 
--- The word of a set of timers has 32 bits.
-pub word-small : (ts : List ℕ) → TimerSet ts → timersOf ts .0 < 2 ^ 32
-word-small ts h = omega (arith, word-bound 0 32 ts (omega arith) (timers-ascend ts h))
+-- The word of a set of timers has no bit more.
+pub word-small : (ts : List ℕ) → TimerSet ts → timersOf ts .0 < 2 ^ bits
+word-small ts h = omega (arith, word-bound 0 bits ts (omega arith) (timers-ascend ts h))
 
 -- ── What the answers list ──────────────────────────────────────────────────────────────────────
 -- The new set lists nothing.

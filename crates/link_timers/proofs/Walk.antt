@@ -12,7 +12,7 @@ use Rattle.lists.specs.Lists.{choose}
 use Rattle.rules.specs.Timers.{countTimers}
 use Rattle.link_timers.specs.declared.Found.{Found}
 use Rattle.link_timers.specs.declared.Found.the-variants.{Timer, Nothing}
-use Rattle.link_timers.specs.Views.{listed, firstFrom}
+use Rattle.link_timers.specs.Views.{bits, listed, firstFrom}
 use Rattle.link_timers.proofs.Listed.{Ascends, listed-ascends, listed-timers, count-small}
 
 -- What is left of an ascending list from f on.
@@ -54,9 +54,9 @@ first-within f z lo hi (y ∷ ys) a e = by-test (first-within f z (suc y) hi ys 
     by-test rest true q = let same : y ≡ z = cc in omega arith
     by-test rest false q = rest q
 
--- What is found is at most 31.
-pub first-small : (x f z : ℕ) → firstFrom f (listed x) ≡ Timer z → z < 32
-first-small x f z e = first-within f z 0 32 (listed x) (listed-ascends x) e
+-- What is found is at most Network.
+pub first-small : (x f z : ℕ) → firstFrom f (listed x) ≡ Timer z → z < bits
+first-small x f z e = first-within f z 0 bits (listed x) (listed-ascends x) e
 
 -- A timer below what was found is no part of the rest.
 passed : (y : ℕ) (ys : List ℕ) (o : Found) → ((z : ℕ) → o ≡ Timer z → y ≤ z) → andOn o (λ g. restFrom g ys) ≡ andOn o (λ g. restFrom g (y ∷ ys))
@@ -77,10 +77,10 @@ rest-step f lo hi (y ∷ ys) a = by-test (rest-step f (suc y) hi ys (a .2)) (leb
 -- ── For a loop over the timers ─────────────────────────────────────────────────────────────────
 -- At first the whole list is left.
 pub walk-begins : (x : ℕ) → restFrom 0 (listed x) ≡ listed x
-walk-begins x = rest-all 0 0 32 (listed x) (omega arith) (listed-ascends x)
+walk-begins x = rest-all 0 0 bits (listed x) (omega arith) (listed-ascends x)
 
 walk-step : (x f : ℕ) → restFrom f (listed x) ≡ andOn (firstFrom f (listed x)) (λ g. restFrom g (listed x))
-walk-step x f = rest-step f 0 32 (listed x) (listed-ascends x)
+walk-step x f = rest-step f 0 bits (listed x) (listed-ascends x)
 
 -- A timer that is found is the first of what is left.
 pub walk-found : (x f y : ℕ) → firstFrom f (listed x) ≡ Timer y → restFrom f (listed x) ≡ y ∷ restFrom (y + 1) (listed x)
@@ -99,12 +99,14 @@ walked-rest : (n f x : ℕ) → length (restFrom f (listed x)) ≤ n → walked 
 walked-rest zero f x h = none-left (restFrom f (listed x)) h
 walked-rest (suc n) f x h = by-found (firstFrom f (listed x)) refl (λ y. walked-rest n (y + 1) x) ∙ sym (walk-step x f)
   where
-    by-found : (o : Found) → firstFrom f (listed x) ≡ o → ((y : ℕ) → length (restFrom (y + 1) (listed x)) ≤ n → walked n (y + 1) (listed x) ≡ restFrom (y + 1) (listed x)) → andOn o (λ g. walked n g (listed x)) ≡ andOn o (λ g. restFrom g (listed x))
+    by-found : (o : Found) → firstFrom f (listed x) ≡ o
+        → ((y : ℕ) → length (restFrom (y + 1) (listed x)) ≤ n → walked n (y + 1) (listed x) ≡ restFrom (y + 1) (listed x))
+        → andOn o (λ g. walked n g (listed x)) ≡ andOn o (λ g. restFrom g (listed x))
     by-found Nothing e rest = refl
     by-found (Timer y) e rest = let l = ap length (walk-found x f y e) in ap (λ (ts : List ℕ). y ∷ ts) (rest y (omega arith))
 
 -- A walk from 0 meets every set timer once, in ascending order, and no other.
-pub walk-meets : (x n : ℕ) → 32 ≤ n → walked n 0 (listed x) ≡ listed x
+pub walk-meets : (x n : ℕ) → bits ≤ n → walked n 0 (listed x) ≡ listed x
 unfolding countTimers
 walk-meets x n h =
     let most = count-small (listed x) (listed-timers x) in

@@ -5,7 +5,7 @@ use native.Mathlib.Nat.{one-mul, mod-eq-of-lt, add-comm, pow-suc}
 use native.Mathlib.Decide.{decLt}
 use native.Mathlib.Omega.{arith}
 use mathlib.Core.Path.{_≡_, refl, sym, ap, ap₂, _∙_, subst}
-use mathlib.Core.Bool.{Bool, true, false, _&&_, _||_, true≢false, false≢true}
+use mathlib.Core.Bool.{Bool, true, false, _||_, and-false, true≢false, false≢true}
 use mathlib.Core.List.{List, [], _∷_}
 use lib.Arith.{lt-one, digits-mod}
 use lib.Bits.{bitAnd, bitOr, and-step, and-high, or-disjoint}
@@ -14,48 +14,49 @@ use lib.Count.{trailingZeros}
 use lib.Dec.{leb, ltb, eqb}
 use borrow.Author.Tests.{lt-ltb, le-ltb, le-leb, eqb-true, eqb-false}
 use Rattle.lists.specs.Lists.{choose, any, place, cut}
+use Rattle.types.specs.Capacities.{network}
 use Rattle.rules.specs.Timers.{isSet, setTimer, cancelTimer, setChanges, cancelChanges}
 use Rattle.rules.proofs.Timers.{set-unchanged, cancel-unchanged, not-in}
 use Rattle.link_timers.specs.declared.Timers.{Timers}
 use Rattle.link_timers.specs.declared.Change.{Change}
 use Rattle.link_timers.specs.declared.Found.the-variants.{Timer, Nothing}
-use Rattle.link_timers.specs.Views.{listed, wordOf, timersOf, setOf, cancelOf, firstFrom}
+use Rattle.link_timers.specs.Views.{bits, listed, wordOf, timersOf, setOf, cancelOf, firstFrom}
 use Rattle.link_timers.proofs.Listed.{digit-set, listed-timers, word-listed, timers-listed}
 use Rattle.link_timers.proofs.First.{first-zeros}
 
 -- One bit.
-bit-word : (t : ℕ) → t < 32 → 1 * 2 ^ t % 4294967296 ≡ 2 ^ t
-bit-word t h = ap (λ (n : ℕ). n % 4294967296) (one-mul (2 ^ t)) ∙ mod-eq-of-lt (pow-lt {i = t} {j = 32} h)
+bit-word : (t : ℕ) → t < bits → 1 * 2 ^ t % 4294967296 ≡ 2 ^ t
+bit-word t h = ap (λ (n : ℕ). n % 4294967296) (one-mul (2 ^ t)) ∙ mod-eq-of-lt (pow-lt {i = t} {j = bits} h)
 
 -- ── The set without the timers below f, and the first that is left ─────────────────────────────
-mask-word : (f : ℕ) → f < 32 → 4294967295 * 2 ^ f % 4294967296 ≡ 2 ^ 32 - 2 ^ f
+mask-word : (f : ℕ) → f < bits → 4294967295 * 2 ^ f % 4294967296 ≡ 2 ^ bits - 2 ^ f
 mask-word f h =
     let p = pow-pos f in
-    let l : 2 ^ f < 2 ^ 32 = pow-lt h in
+    let l : 2 ^ f < 2 ^ bits = pow-lt h in
     let parts : 4294967295 * 2 ^ f ≡ (2 ^ f - 1) * 4294967296 + (4294967296 - 2 ^ f) = omega arith in
     ap (λ (n : ℕ). n % 4294967296) parts ∙ digits-mod (2 ^ f - 1) (omega arith)
 
-rest-word : (x f : ℕ) → x < 2 ^ 32 → f < 32 → bitAnd x (4294967295 * 2 ^ f % 4294967296) ≡ x / 2 ^ f * 2 ^ f
+rest-word : (x f : ℕ) → x < 2 ^ bits → f < bits → bitAnd x (4294967295 * 2 ^ f % 4294967296) ≡ x / 2 ^ f * 2 ^ f
 rest-word x f h l =
-    let whole : 32 - f + f ≡ 32 = omega arith in
+    let whole : bits - f + f ≡ bits = omega arith in
     ap (bitAnd x) (mask-word f l ∙ ap (λ (n : ℕ). 2 ^ n - 2 ^ f) (sym whole))
-    ∙ and-high x (32 - f) f
-    ∙ ap (λ (n : ℕ). n * 2 ^ f) (shr-mod (32 - f) f (subst (λ (n : ℕ). x < 2 ^ n) (sym whole) h))
+    ∙ and-high x (bits - f) f
+    ∙ ap (λ (n : ℕ). n * 2 ^ f) (shr-mod (bits - f) f (subst (λ (n : ℕ). x < 2 ^ n) (sym whole) h))
 
 abbrev zerosOf : ℕ → ℕ → ℕ
-zerosOf x f = trailingZeros 32 (bitAnd x (4294967295 * 2 ^ f % 4294967296))
+zerosOf x f = trailingZeros bits (bitAnd x (4294967295 * 2 ^ f % 4294967296))
 
-first-word : (x f : ℕ) → x < 2 ^ 32 → f < 32 → firstFrom f (listed x) ≡ choose (ltb (zerosOf x f) 32) (Timer (zerosOf x f)) Nothing
+first-word : (x f : ℕ) → x < 2 ^ bits → f < bits → firstFrom f (listed x) ≡ choose (ltb (zerosOf x f) bits) (Timer (zerosOf x f)) Nothing
 first-word x f h l =
-    first-zeros x f ∙ ap (λ (n : ℕ). choose (ltb (trailingZeros 32 n) 32) (Timer (trailingZeros 32 n)) Nothing) (sym (rest-word x f h l))
+    first-zeros x f ∙ ap (λ (n : ℕ). choose (ltb (trailingZeros bits n) bits) (Timer (trailingZeros bits n)) Nothing) (sym (rest-word x f h l))
 
-pub next-nothing : (x f : ℕ) → x < 2 ^ 32 → f < 32 → 31 < zerosOf x f → Nothing ≡ firstFrom f (listed x)
+pub next-nothing : (x f : ℕ) → x < 2 ^ bits → f < bits → network < zerosOf x f → Nothing ≡ firstFrom f (listed x)
 unfolding choose
-next-nothing x f h l z = sym (first-word x f h l ∙ rw (le-ltb (zerosOf x f) 32 z))
+next-nothing x f h l z = sym (first-word x f h l ∙ rw (le-ltb (zerosOf x f) bits z))
 
-pub next-timer : (x f : ℕ) → x < 2 ^ 32 → f < 32 → zerosOf x f ≤ 31 → Timer (zerosOf x f) ≡ firstFrom f (listed x)
+pub next-timer : (x f : ℕ) → x < 2 ^ bits → f < bits → zerosOf x f ≤ network → Timer (zerosOf x f) ≡ firstFrom f (listed x)
 unfolding choose
-next-timer x f h l z = sym (first-word x f h l ∙ rw (lt-ltb (zerosOf x f) 32 (suc-le-suc z)))
+next-timer x f h l z = sym (first-word x f h l ∙ rw (lt-ltb (zerosOf x f) bits (suc-le-suc z)))
 
 -- ── A bit more, a bit less ─────────────────────────────────────────────────────────────────────
 and-bit : (x t : ℕ) → bitAnd x (2 ^ t) ≡ x / 2 ^ t % 2 * 2 ^ t
@@ -111,34 +112,35 @@ word-cut t (y ∷ ys) e = by-test (eqb t y) refl e (word-cut t ys)
     by-test true p q rest = ap (λ (n : ℕ). 2 ^ n + wordOf ys) (eqb-true t y p)
     by-test false p q rest = omega (arith, rest q)
 
-set-word : (x t : ℕ) → x < 2 ^ 32 → t < 32 → isSet t (listed x) ≡ false → bitOr x (1 * 2 ^ t % 4294967296) ≡ wordOf (setTimer t (listed x))
+set-word : (x t : ℕ) → x < 2 ^ bits → t < bits → isSet t (listed x) ≡ false → bitOr x (1 * 2 ^ t % 4294967296) ≡ wordOf (setTimer t (listed x))
 unfolding setTimer isSet choose
 set-word x t h l e =
     let zero-bit : x / 2 ^ t % 2 ≡ 0 = omega (arith, eqb-false (x / 2 ^ t % 2) 1 (sym (digit-set x t l) ∙ e)) in
     let apart : bitAnd x (2 ^ t) ≡ 0 = and-bit x t ∙ ap (λ (n : ℕ). n * 2 ^ t) zero-bit ∙ omega arith in
-    rw (le-leb t 31 (omega arith))
+    rw (le-leb t network (omega arith))
     (ap (bitOr x) (bit-word t l)
     ∙ or-disjoint x (2 ^ t) apart
     ∙ add-comm x (2 ^ t)
     ∙ ap (λ (n : ℕ). 2 ^ t + n) (sym (word-listed x h))
     ∙ sym (word-place t (listed x) e))
 
-cancel-word : (x t : ℕ) → x < 2 ^ 32 → t < 32 → isSet t (listed x) ≡ true → bitAnd x (4294967295 - 1 * 2 ^ t % 4294967296) ≡ wordOf (cancelTimer t (listed x))
+cancel-word : (x t : ℕ) → x < 2 ^ bits → t < bits → isSet t (listed x) ≡ true
+    → bitAnd x (4294967295 - 1 * 2 ^ t % 4294967296) ≡ wordOf (cancelTimer t (listed x))
 unfolding cancelTimer isSet choose
 cancel-word x t h l e =
     let one-bit : x / 2 ^ t % 2 ≡ 1 = eqb-true (x / 2 ^ t % 2) 1 (sym (digit-set x t l) ∙ e) in
     let here : bitAnd x (2 ^ t) ≡ 2 ^ t = and-bit x t ∙ ap (λ (n : ℕ). n * 2 ^ t) one-bit ∙ one-mul (2 ^ t) in
-    let parts = and-split 32 x (2 ^ t) h (pow-lt l) in
+    let parts = and-split bits x (2 ^ t) h (pow-lt l) in
     let gone = word-cut t (listed x) e in
     let whole = word-listed x h in
-    rw (le-leb t 31 (omega arith)) (ap (λ (n : ℕ). bitAnd x (4294967295 - n)) (bit-word t l) ∙ omega arith)
+    rw (le-leb t network (omega arith)) (ap (λ (n : ℕ). bitAnd x (4294967295 - n)) (bit-word t l) ∙ omega arith)
 
 -- ── What setting and cancelling answer ─────────────────────────────────────────────────────────
--- Only a timer up to 31 is ever set.
-pub set-small : (x t : ℕ) → isSet t (listed x) ≡ true → t < 32
-set-small x t e = small (decLt t 32)
+-- Only a timer up to Network is ever set.
+pub set-small : (x t : ℕ) → isSet t (listed x) ≡ true → t < bits
+set-small x t e = small (decLt t bits)
   where
-    small : Dec (t < 32) → t < 32
+    small : Dec (t < bits) → t < bits
     small (yes h) = h
     small (no n) = absurd (true≢false (sym e ∙ not-in t (listed x) (listed-timers x) (omega arith)))
 
@@ -146,36 +148,34 @@ abbrev answer : Bool → Timers → Change
 answer b x = record { changed = b; timers = x }
 
 -- Where nothing changes, the set that came is answered.
-pub set-same : (x : Timers) (t : ℕ) → x .0 < 2 ^ 32 → setChanges t (listed (x .0)) ≡ false → answer false x ≡ setOf x t
+pub set-same : (x : Timers) (t : ℕ) → x .0 < 2 ^ bits → setChanges t (listed (x .0)) ≡ false → answer false x ≡ setOf x t
 set-same x t h e = sym (ap₂ answer e (ap timersOf (set-unchanged t (listed (x .0)) (listed-timers (x .0)) e) ∙ timers-listed x h))
 
-pub cancel-same : (x : Timers) (t : ℕ) → x .0 < 2 ^ 32 → cancelChanges t (listed (x .0)) ≡ false → answer false x ≡ cancelOf x t
+pub cancel-same : (x : Timers) (t : ℕ) → x .0 < 2 ^ bits → cancelChanges t (listed (x .0)) ≡ false → answer false x ≡ cancelOf x t
 cancel-same x t h e = sym (ap₂ answer e (ap timersOf (cancel-unchanged t (listed (x .0)) e) ∙ timers-listed x h))
-
-and-false : (b : Bool) → (b && false) ≡ false
-and-false true = refl
-and-false false = refl
 
 -- A timer that is set already is not set anew, and one that is not set is not cancelled.
 pub set-again : (t : ℕ) (ts : List ℕ) → isSet t ts ≡ true → setChanges t ts ≡ false
 unfolding setChanges
-set-again t ts e = rw e (and-false (leb t 31))
+set-again t ts e = rw e (and-false (leb t network))
 
 pub cancel-missing : (t : ℕ) (ts : List ℕ) → isSet t ts ≡ false → cancelChanges t ts ≡ false
 unfolding cancelChanges
-cancel-missing t ts e = rw e (and-false (leb t 31))
+cancel-missing t ts e = rw e (and-false (leb t network))
 
 -- Where the set changes, one bit is set or cleared.
-set-changes : (t : ℕ) (ts : List ℕ) → t < 32 → isSet t ts ≡ false → setChanges t ts ≡ true
+set-changes : (t : ℕ) (ts : List ℕ) → t < bits → isSet t ts ≡ false → setChanges t ts ≡ true
 unfolding setChanges
-set-changes t ts l e = rw (le-leb t 31 (omega arith), e)
+set-changes t ts l e = rw (le-leb t network (omega arith), e)
 
-cancel-changes : (t : ℕ) (ts : List ℕ) → t < 32 → isSet t ts ≡ true → cancelChanges t ts ≡ true
+cancel-changes : (t : ℕ) (ts : List ℕ) → t < bits → isSet t ts ≡ true → cancelChanges t ts ≡ true
 unfolding cancelChanges
-cancel-changes t ts l e = rw (le-leb t 31 (omega arith), e)
+cancel-changes t ts l e = rw (le-leb t network (omega arith), e)
 
-pub set-anew : (x : Timers) (t : ℕ) → x .0 < 2 ^ 32 → t < 32 → isSet t (listed (x .0)) ≡ false → answer true (record { 0 = bitOr (x .0) (1 * 2 ^ t % 4294967296) }) ≡ setOf x t
+pub set-anew : (x : Timers) (t : ℕ) → x .0 < 2 ^ bits → t < bits → isSet t (listed (x .0)) ≡ false
+    → answer true (record { 0 = bitOr (x .0) (1 * 2 ^ t % 4294967296) }) ≡ setOf x t
 set-anew x t h l e = ap₂ answer (sym (set-changes t (listed (x .0)) l e)) (λ i. record { 0 = set-word (x .0) t h l e i })
 
-pub cancel-set : (x : Timers) (t : ℕ) → x .0 < 2 ^ 32 → t < 32 → isSet t (listed (x .0)) ≡ true → answer true (record { 0 = bitAnd (x .0) (4294967295 - 1 * 2 ^ t % 4294967296) }) ≡ cancelOf x t
+pub cancel-set : (x : Timers) (t : ℕ) → x .0 < 2 ^ bits → t < bits → isSet t (listed (x .0)) ≡ true
+    → answer true (record { 0 = bitAnd (x .0) (4294967295 - 1 * 2 ^ t % 4294967296) }) ≡ cancelOf x t
 cancel-set x t h l e = ap₂ answer (sym (cancel-changes t (listed (x .0)) l e)) (λ i. record { 0 = cancel-word (x .0) t h l e i })

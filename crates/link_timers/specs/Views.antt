@@ -15,9 +15,13 @@ unfoldable pub listedFrom : ℕ → ℕ → ℕ → List ℕ
 listedFrom zero k x = []
 listedFrom (suc d) k x = choose (eqb (x % 2) 1) (k ∷ []) [] ++ listedFrom d (suc k) (x / 2)
 
+-- The bits of the word: one for each timer up to Network.
+abbrev pub bits : ℕ
+bits = 32
+
 -- The timers that are set.
 unfoldable pub listed : ℕ → List ℕ
-listed x = listedFrom 32 0 x
+listed x = listedFrom bits 0 x
 
 -- The word with ones at these places.
 abbrev pub wordOf : List ℕ → ℕ

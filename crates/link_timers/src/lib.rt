@@ -1,10 +1,8 @@
-// The timers of an actor: a set of 32, one bit each. User timers are 0 to 30, and Network is 31.
+// The timers of an actor: a set, one bit of a word each. Network is the last one, and those below it are the user's.
+use types::NETWORK;
 ghost use mathlib.Core.Path.{_≡_};
 ghost use Rattle.rules.specs.Timers.{noTimers, isSet, countTimers};
 ghost use Rattle.link_timers.specs.Views.{listed, timersOf, setOf, cancelOf, firstFrom};
-
-// The Network timer, the last one.
-pub const NETWORK: u8 = 31;
 
 // Bit t is timer t.
 pub struct Timers(pub u32);
@@ -38,7 +36,7 @@ impl Timers {
         (self.0 >> t) & 1 == 1
     }
 
-    // A timer above 31, or one that is set, changes nothing.
+    // A timer above Network, or one that is set, changes nothing.
     pub fn set(self, t: u8) -> Change
         ensures { λ r. ⌜ r ≡ setOf self t ⌝ }
     {
@@ -98,7 +96,7 @@ impl Timers {
         }
         let rest = self.0 & 0xffff_ffff << from;
         let zeros = u32::trailing_zeros(rest);
-        if 31 < zeros {
+        if (NETWORK as u32) < zeros {
             return Found::Nothing;
         }
         Found::Timer(zeros as u8)

@@ -1,6 +1,8 @@
+-- The first place that is not used takes the record, so that the array holds the list with the record at its end.
 use mathlib.Core.Path.{_≡_}
 use lib.ListN.{length}
 use Rattle.lists.proofs.Places.{length-mapped}
+use Rattle.types.specs.Capacities.{mostPending}
 use Rattle.link_durable.proofs.Containers.{appended, pendings-are}
 use borrow.Author.Needs.{needs}
 use Rattle.link_durable.proofs.append_pending.Statement.{statement}
@@ -18,7 +20,7 @@ add-t5 c = search needs
 returns : tie.Need-returns
 returns c =
     let a = c .before in
-    let n : length (a .args .p .records) ≡ 32 = search (needs, length-mapped) in
+    let n : length (a .args .p .records) ≡ mostPending = search (needs, length-mapped) in
     appended (a .args .p) (pendings-are (a .args .p) n (a .pre .0)) (a .args .q) (a .pre .1)
 
 pub append-pending-spec : {M : Type 1} → statement M

@@ -1,3 +1,4 @@
+-- Up to place i every record is below the next one. A pair that is not decides, and at the end every pair was seen.
 use Rattle.lists.proofs.Walks.{pairs-on}
 use borrow.Author.Needs.{needs}
 use borrow.Author.Tests.{lt-ltb, le-ltb}
@@ -8,6 +9,7 @@ use mathlib.Core.Bool.{true}
 use lib.ListN.{length, getD}
 use Rattle.lists.proofs.Places.{length-mapped}
 use Rattle.lists.proofs.Sorted.{chain-first, chain-fails}
+use Rattle.types.specs.Capacities.{mostPending}
 use Rattle.rules.specs.WellFormed.{byNumber}
 use Rattle.link_durable.specs.Views.{zeroPending}
 use Rattle.link_durable.proofs.ascending.Statement.{statement}
@@ -40,7 +42,7 @@ array-copy-out-b c = search needs
 returns : tie.Need-returns Inv-loop μ-loop
 returns c =
     let a = c .before .before .before .before .before .before .before .before .args .p in let l = c .before .before .before .before .before .before .loop in
-    let n : length (a .records) ≡ 32 = search (needs, length-mapped) in
+    let n : length (a .records) ≡ mostPending = search (needs, length-mapped) in
     chain-fails byNumber (a .records) (a .used) (l .i) zeroPending (omega arith) (l .inv .0) (search needs) (le-ltb _ _ (c .if1 .taken))
 
 add-i : tie.Need-add-i Inv-loop μ-loop
@@ -57,7 +59,7 @@ loop-again c =
 returns-2 : tie.Need-returns-2 Inv-loop μ-loop
 returns-2 c =
     let a = c .before .before .before .args .p in let l = c .before .loop in
-    let n : length (a .records) ≡ 32 = search (needs, length-mapped) in
+    let n : length (a .records) ≡ mostPending = search (needs, length-mapped) in
     chain-first byNumber (a .records) (a .used) zeroPending (omega arith) (λ k h. l .inv .1 k (omega arith))
 
 pub ascending-spec : {M : Type 1} → statement M

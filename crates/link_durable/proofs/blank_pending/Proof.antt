@@ -1,3 +1,4 @@
+-- The three fields are tested one by one, and the first that is not zero decides.
 use borrow.Author.Tests.{eq-eqb, ne-eqb}
 use native.Mathlib.Omega.{arith}
 use mathlib.Core.Bool.{and-true}
@@ -16,7 +17,8 @@ returns-2 c = let q = c .before .before .before .before .args .q in simp (eq-eqb
 
 returns-3 : tie.Need-returns-3
 unfolding blankPending every
-returns-3 c = let q = c .before .before .before .before .before .args .q in simp (eq-eqb (q .number .0) 0 (omega arith), eq-eqb (q .dst .0) 0 (omega arith), and-true)
+returns-3 c =
+    let q = c .before .before .before .before .before .args .q in simp (eq-eqb (q .number .0) 0 (omega arith), eq-eqb (q .dst .0) 0 (omega arith), and-true)
 
 pub blank-pending-spec : {M : Type 1} → statement M
 blank-pending-spec = tie.close (tie.spec returns returns-2 returns-3)

@@ -1,3 +1,4 @@
+-- Laid out means that both structs are: the first that is not decides.
 use mathlib.Core.Path.{sym, _∙_}
 use mathlib.Core.Bool.{and-true}
 use borrow.Author.Tests.{not-true, not-false}
@@ -19,7 +20,12 @@ taken-laid-requires c κs = search needs
 
 returns-2 : tie.Need-returns-2
 unfolding durableLaid every
-returns-2 c = simp (sym (c .before .before .before .pendings-laid .ensures) ∙ not-false (c .before .before .before .pendings-laid .result) (c .before .before .if1 .left), and-true) (c .taken-laid .ensures)
+returns-2 c =
+    simp (
+      sym (c .before .before .before .pendings-laid .ensures)
+          ∙ not-false (c .before .before .before .pendings-laid .result) (c .before .before .if1 .left),
+      and-true,
+    ) (c .taken-laid .ensures)
 
 pub durable-laid-spec : {M : Type 1} → statement M
 durable-laid-spec =

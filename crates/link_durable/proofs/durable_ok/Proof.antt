@@ -1,3 +1,4 @@
+-- Laid out is tested first, since the test of the lists asks for it. The two tests are the two parts of the promise.
 use mathlib.Core.Path.{sym, _∙_}
 use mathlib.Core.Bool.{and-true}
 use borrow.Author.Tests.{not-true, not-false}
@@ -19,7 +20,9 @@ durable-formed-requires c κs = sym (c .before .durable-laid .ensures) ∙ not-f
 
 returns-2 : tie.Need-returns-2
 unfolding durableFine every
-returns-2 c = simp (sym (c .before .before .durable-laid .ensures) ∙ not-false (c .before .before .durable-laid .result) (c .before .if1 .left), and-true) (c .durable-formed .ensures)
+returns-2 c =
+    simp (sym (c .before .before .durable-laid .ensures) ∙ not-false (c .before .before .durable-laid .result) (c .before .if1 .left), and-true)
+    (c .durable-formed .ensures)
 
 pub durable-ok-spec : {M : Type 1} → statement M
 durable-ok-spec =

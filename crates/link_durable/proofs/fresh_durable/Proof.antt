@@ -1,3 +1,4 @@
+-- An array of zeros is what holds no list at all.
 use Rattle.lists.specs.Lists.{pad}
 use Rattle.rules.specs.Link.{fresh}
 use borrow.Author.Needs.{needs}

@@ -1,3 +1,4 @@
+-- The numbers last taken are one part of the durable part, and it is laid out with it.
 use Rattle.rules.specs.Link.{lastTaken}
 use Rattle.link_durable.proofs.Containers.{durable-parts}
 use Rattle.link_durable.proofs.last_taken.Statement.{statement}

@@ -1,3 +1,4 @@
+-- By the two cases.
 use Rattle.link_durable.specs.Views.{unsaved}
 use borrow.Author.Needs.{needs}
 use Rattle.link_durable.proofs.nothing_saved.Statement.{statement}

@@ -1,3 +1,4 @@
+-- Every record before place i has another number. So the place at which the walk stops is how many lead with another number.
 use borrow.Author.Count.{below-none, below-more}
 use native.Mathlib.Omega.{arith}
 use Prim.Native.Nat.{ℕ, _≤_, _<_, _-_}
@@ -32,7 +33,8 @@ returns : tie.Need-returns Inv-loop μ-loop
 returns c =
     let a = c .before .before .before .before .before .args in
     let l = c .before .before .before .before .loop in
-    lead-first (otherNumber (a .n)) (a .t1) (a .used) (l .i) zeroPending (search needs) (search needs) (l .inv .1) (λ h. ap not (sym (c .before .has-number .ensures) ∙ c .if1 .taken))
+    lead-first (otherNumber (a .n)) (a .t1) (a .used) (l .i) zeroPending (search needs) (search needs) (l .inv .1)
+    (λ h. ap not (sym (c .before .has-number .ensures) ∙ c .if1 .taken))
 
 add-i : tie.Need-add-i Inv-loop μ-loop
 add-i c = search needs

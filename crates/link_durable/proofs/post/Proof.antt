@@ -1,8 +1,10 @@
+-- There is room and a number is left, so the record goes to the end of the list and the next number is one more.
 use mathlib.Core.Path.{_≡_}
 use lib.ListN.{length}
 use Rattle.lists.proofs.Places.{length-mapped}
 use Prim.Native.Nat.{_+_, suc}
 use native.Mathlib.Numerals.{add-one}
+use Rattle.types.specs.Capacities.{mostPending, mostActors}
 use Rattle.types.specs.declared.Number.{Number}
 use Rattle.rules.specs.Link.{posting, numbered}
 use Rattle.link_durable.proofs.Containers.{durable-parts, durable-is, same-parts, taken-same}
@@ -20,8 +22,8 @@ returns : tie.Need-returns
 unfolding posting numbered
 returns c =
     let a = c .before .before .before .before .before in
-    let n : length (a .args .d .pending .records) ≡ 32 = search (needs, length-mapped) in
-    let m : length (a .args .d .taken .last) ≡ 8 = search (needs, length-mapped) in
+    let n : length (a .args .d .pending .records) ≡ mostPending = search (needs, length-mapped) in
+    let m : length (a .args .d .taken .last) ≡ mostActors = search (needs, length-mapped) in
     let l = durable-is (a .args .d) n m (a .pre .0) in
     let e : _≡_ {A = Number} (record { 0 = a .args .d .next .0 + 1 }) (record { 0 = suc (a .args .d .next .0) }) = rw add-one in
     same-parts _ _ _ _ _ _ _ e (c .before .before .append-pending .ensures) (taken-same (a .args .d .taken) (l .numbers))

@@ -1,3 +1,4 @@
+-- Each turn moves one record down, and the array without place i is still the one without the first place. The last place becomes zero.
 use borrow.Author.Needs.{needs}
 use native.Mathlib.Omega.{arith}
 use Prim.Native.Nat.{_<_, _-_}
@@ -5,12 +6,13 @@ use mathlib.Core.Path.{_≡_, _∙_}
 use lib.ListN.{length}
 use Rattle.lists.specs.Lists.{del}
 use Rattle.lists.proofs.Places.{del-turn, del-done}
+use Rattle.types.specs.Capacities.{mostPending}
 use Rattle.link_durable.specs.Views.{zeroPending}
 use Rattle.link_durable.proofs.remove_at.Statement.{statement}
 use Rattle.link_durable.proofs.remove_at.Tie as tie
 
 abbrev Inv-loop : tie.InvT-loop
-Inv-loop used at es₀ i₀ es i = (i < used) × (length es ≡ 32) × (del i es ≡ del i₀ es₀)
+Inv-loop used at es₀ i₀ es i = (i < used) × (length es ≡ mostPending) × (del i es ≡ del i₀ es₀)
 
 abbrev μ-loop : tie.MeasureT-loop
 μ-loop used at es₀ i₀ es i = used - i

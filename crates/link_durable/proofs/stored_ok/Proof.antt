@@ -1,3 +1,4 @@
+-- Where something is stored its test decides. Where nothing is, the part must be laid out and zero.
 use mathlib.Core.Path.{sym, _∙_}
 use mathlib.Core.Bool.{and-true}
 use borrow.Author.Tests.{not-true, not-false}

@@ -1,8 +1,10 @@
+-- What is stored holds its own lists, since it is laid out. Where nothing is, the fresh part is the answer of the rules.
 use mathlib.Core.Path.{_≡_}
 use lib.ListN.{length}
 use Rattle.lists.proofs.Places.{length-mapped}
 use Rattle.lists.specs.Lists.{choose}
 use Rattle.lists.proofs.Members.{every-cons}
+use Rattle.types.specs.Capacities.{mostPending, mostActors}
 use Rattle.rules.specs.Link.{durableOf}
 use Rattle.link_durable.specs.Views.{storedView, storedLaid}
 use Rattle.link_durable.proofs.Containers.{durable-is, durable-same}
@@ -15,8 +17,8 @@ unfolding storedView durableOf choose storedLaid
 returns c =
     let a = c .before .before in
     let d = a .args .s .durable in
-    let n : length (d .pending .records) ≡ 32 = search (needs, length-mapped) in
-    let m : length (d .taken .last) ≡ 8 = search (needs, length-mapped) in
+    let n : length (d .pending .records) ≡ mostPending = search (needs, length-mapped) in
+    let m : length (d .taken .last) ≡ mostActors = search (needs, length-mapped) in
     rw (c .before .if1 .taken) (durable-same d (durable-is d n m (every-cons _ _ (a .pre) .0)))
 
 fresh-durable-requires : tie.Need-fresh-durable-requires

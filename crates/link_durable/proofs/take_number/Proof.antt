@@ -1,7 +1,9 @@
+-- Only the numbers last taken change. The other parts are what the lists of the old part say.
 use mathlib.Core.Path.{_≡_, refl}
 use lib.ListN.{length}
 use Rattle.lists.proofs.Places.{length-mapped}
 use borrow.Author.Needs.{needs}
+use Rattle.types.specs.Capacities.{mostPending, mostActors}
 use Rattle.rules.specs.Link.{withTaken}
 use Rattle.link_durable.proofs.Containers.{durable-parts, durable-is, same-parts, pendings-same}
 use Rattle.link_durable.proofs.take_number.Statement.{statement}
@@ -14,8 +16,8 @@ returns : tie.Need-returns
 unfolding withTaken
 returns c =
     let a = c .before .before .before .before in
-    let n : length (a .args .d .pending .records) ≡ 32 = search (needs, length-mapped) in
-    let m : length (a .args .d .taken .last) ≡ 8 = search (needs, length-mapped) in
+    let n : length (a .args .d .pending .records) ≡ mostPending = search (needs, length-mapped) in
+    let m : length (a .args .d .taken .last) ≡ mostActors = search (needs, length-mapped) in
     let l = durable-is (a .args .d) n m (a .pre .0) in
     same-parts _ _ _ _ _ _ _ refl (pendings-same (a .args .d .pending) (l .pendings)) (c .before .before .note-taken .ensures)
 

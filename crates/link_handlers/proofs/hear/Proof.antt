@@ -1,3 +1,4 @@
+-- A number up to the last one taken is acked only. A higher one is handed on, with the reply that the rules give.
 use borrow.Author.Tests.{le-leb, lt-leb}
 use mathlib.Core.Path.{sym, ap, _∙_}
 use mathlib.Core.List.{[]}
@@ -29,15 +30,18 @@ react-requires : tie.Need-react-requires
 react-requires c κs = search needs
 
 handed-requires : tie.Need-handed-requires
-handed-requires c κs = let a = c .before .before .before .before .before .before in (a .pre .1, a .pre .2, react-few (a .args .table) (a .pre .0) _ _ _ _ _ (c .react .ensures))
+handed-requires c κs =
+    let a = c .before .before .before .before .before .before in (a .pre .1, a .pre .2, react-few (a .args .table) (a .pre .0) _ _ _ _ _ (c .react .ensures))
 
 returns-2 : tie.Need-returns-2
 returns-2 c = λ i.
     let a = c .before .before .before .before .before .before .before in
     let b = a .args in
-    let e = ap (λ (z : Number). leb (b .n .0) (z .0)) (sym (c .before .before .before .before .before .last-taken .ensures)) ∙ lt-leb _ _ (c .before .before .if1 .left) in
+    let e = ap (λ (z : Number). leb (b .n .0) (z .0)) (sym (c .before .before .before .before .before .last-taken .ensures))
+    ∙ lt-leb _ _ (c .before .before .if1 .left) in
     c .handed .ensures i (b .p)
-    ∙ ap (λ (z : Reply). didAs (b .l) (handing (base .limits) i (linkView (b .l)) (b .s) (b .n) (b .p) z)) (react-back (b .table) (a .pre .0) _ _ _ _ _ (c .before .react .ensures))
+    ∙ ap (λ (z : Reply). didAs (b .l) (handing (base .limits) i (linkView (b .l)) (b .s) (b .n) (b .p) z))
+    (react-back (b .table) (a .pre .0) _ _ _ _ _ (c .before .react .ensures))
     ∙ ap (didAs (b .l)) (msg-new (base .limits) i (linkView (b .l)) (rulesOf (b .table)) (b .s) (b .n) (b .p) e)
 
 pub hear-spec : {M : Type 1} → statement M

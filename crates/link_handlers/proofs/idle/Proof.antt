@@ -1,3 +1,4 @@
+-- The link that came, laid out, is the link of its own lists.
 use mathlib.Core.Path.{refl}
 use Rattle.answers.specs.Answers.{answerOf}
 use Rattle.rules.specs.Link.{idling}

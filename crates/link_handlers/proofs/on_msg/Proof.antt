@@ -1,3 +1,5 @@
+-- By the two kinds of message, on a link that is laid out.
+use Rattle.types.specs.Capacities.{mostPending, mostActors}
 use Rattle.link_output.specs.Views.{Whole}
 use mathlib.Core.Path.{_≡_}
 use lib.ListN.{length}
@@ -12,8 +14,8 @@ use Rattle.link_handlers.proofs.on_msg.Tie as tie
 whole : (a : tie.Start) → Whole (a .args .link .durable)
 whole a =
     let d = a .args .link .durable in
-    let n : length (d .pending .records) ≡ 32 = search (needs, length-mapped, a .good .1 .0 .1 .1 .0 .1 .1 .1 .0) in
-    let m : length (d .taken .last) ≡ 8 = search (needs, length-mapped, a .good .1 .0 .1 .1 .0 .1 .1 .1 .1 .0) in
+    let n : length (d .pending .records) ≡ mostPending = search (needs, length-mapped, a .good .1 .0 .1 .1 .0 .1 .1 .1 .0) in
+    let m : length (d .taken .last) ≡ mostActors = search (needs, length-mapped, a .good .1 .0 .1 .1 .0 .1 .1 .1 .1 .0) in
     whole-of d n m (a .pre .1)
 
 enum-known-message : tie.Need-enum-known-message

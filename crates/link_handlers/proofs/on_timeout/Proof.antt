@@ -1,3 +1,5 @@
+-- Network sends again. For any other timer the reply says whether the event was ignored, and that decides in the rules too.
+use Rattle.types.specs.Capacities.{mostPending, mostActors}
 use Rattle.link_output.specs.Views.{Whole}
 use mathlib.Core.Path.{_≡_, sym, ap, _∙_}
 use lib.ListN.{length}
@@ -17,15 +19,18 @@ use Rattle.link_handlers.proofs.on_timeout.Tie as tie
 whole : (a : tie.Start) → Whole (a .args .link .durable)
 whole a =
     let d = a .args .link .durable in
-    let n : length (d .pending .records) ≡ 32 = search (needs, length-mapped, a .good .1 .0 .1 .1 .0 .1 .1 .1 .0) in
-    let m : length (d .taken .last) ≡ 8 = search (needs, length-mapped, a .good .1 .0 .1 .1 .0 .1 .1 .1 .1 .0) in
+    let n : length (d .pending .records) ≡ mostPending = search (needs, length-mapped, a .good .1 .0 .1 .1 .0 .1 .1 .1 .0) in
+    let m : length (d .taken .last) ≡ mostActors = search (needs, length-mapped, a .good .1 .0 .1 .1 .0 .1 .1 .1 .1 .0) in
     whole-of d n m (a .pre .1)
 
 resend-requires : tie.Need-resend-requires
 resend-requires c κs = whole (c .before)
 
 returns : tie.Need-returns
-returns c = λ i. let a = c .before .before .args in c .resend .ensures ∙ ap (didAs (a .link)) (timeout-network (base .limits) i (linkView (a .link)) (rulesOf (a .table)) (a .timer) (c .before .if1 .taken))
+returns c = λ i.
+    let a = c .before .before .args in
+    c .resend .ensures
+    ∙ ap (didAs (a .link)) (timeout-network (base .limits) i (linkView (a .link)) (rulesOf (a .table)) (a .timer) (c .before .if1 .taken))
 
 react-requires : tie.Need-react-requires
 react-requires c κs = search needs
@@ -41,7 +46,9 @@ returns-2 c = λ i.
     let a = c .before .before .before .before .before in
     let b = a .args in
     let e = react-back (b .table) (a .pre .0) _ _ _ _ _ (c .before .before .before .react .ensures) in
-    c .idle .ensures ∙ ap (didAs (b .link)) (timeout-idle (base .limits) i (linkView (b .link)) (rulesOf (b .table)) (b .timer) (c .before .before .before .before .if1 .left) (sym (ap ignored e) ∙ sym (ap (λ (z : Settled). z .ignored) (c .before .before .settle .ensures)) ∙ c .before .if2 .taken))
+    let f = sym (ap ignored e) ∙ sym (ap (λ (z : Settled). z .ignored) (c .before .before .settle .ensures)) ∙ c .before .if2 .taken in
+    c .idle .ensures
+    ∙ ap (didAs (b .link)) (timeout-idle (base .limits) i (linkView (b .link)) (rulesOf (b .table)) (b .timer) (c .before .before .before .before .if1 .left) f)
 
 timed-requires : tie.Need-timed-requires
 timed-requires c κs =
@@ -53,7 +60,10 @@ returns-3 c = λ i.
     let a = c .before .before .before .before .before in
     let b = a .args in
     let e = react-back (b .table) (a .pre .0) _ _ _ _ _ (c .before .before .before .react .ensures) in
-    c .timed .ensures i ∙ ap (didAs (b .link)) (timeout-goes (base .limits) i (linkView (b .link)) (rulesOf (b .table)) (b .timer) _ (c .before .before .before .before .if1 .left) e (sym (ap (λ (z : Settled). z .ignored) (c .before .before .settle .ensures)) ∙ c .before .if2 .left))
+    let f = sym (ap (λ (z : Settled). z .ignored) (c .before .before .settle .ensures)) ∙ c .before .if2 .left in
+    c .timed .ensures i
+    ∙ ap (didAs (b .link))
+    (timeout-goes (base .limits) i (linkView (b .link)) (rulesOf (b .table)) (b .timer) _ (c .before .before .before .before .if1 .left) e f)
 
 pub on-timeout-spec : {M : Type 1} → statement M
 on-timeout-spec =

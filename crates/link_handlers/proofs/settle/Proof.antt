@@ -1,9 +1,11 @@
+-- A touched reply is not ignored. An untouched one is ignored where the count of its commands is zero.
 use borrow.Author.Needs.{needs}
 use native.Mathlib.Omega.{arith}
 use mathlib.Core.Path.{_≡_}
 use mathlib.Core.Bool.{true, false}
 use lib.ListN.{length}
 use Rattle.lists.specs.Lists.{choose}
+use Rattle.types.specs.Capacities.{mostCommands}
 use Rattle.rules.specs.Inner.{ignored}
 use Rattle.lists.proofs.Places.{length-mapped}
 use Rattle.link_output.proofs.Outputs.{ignored-is}
@@ -18,7 +20,7 @@ returns-2 : tie.Need-returns-2
 unfolding choose
 returns-2 c =
     let r = c .before .before .args .r in
-    let n : length (r .commands) ≡ 4 = search (needs, length-mapped) in
+    let n : length (r .commands) ≡ mostCommands = search (needs, length-mapped) in
     let t : r .touched ≡ false = c .before .if1 .left in
     rw (ignored-is r (omega arith), t)
 

@@ -1,53 +1,37 @@
-use borrow.Author.Tests.{not-true, not-false}
-use mathlib.Core.Path.{refl, _∙_}
-use mathlib.Core.List.{[], _∷_}
-use Rattle.answers.specs.Answers.{answerOf}
-use Rattle.rules.specs.Link as rules
-use Rattle.link_inner.specs.Views.{replyOf}
-use Rattle.link_output.specs.Views.{commandAs}
-use Rattle.link_output.proofs.Outputs.{went}
-use Rattle.link_handlers.proofs.Handlers.{did-is, link-is}
-use Rattle.link_output.specs.declared.LinkCommand.the-variants.{Set}
-use Rattle.link_handlers.proofs.Handlers.{none-ready, first-in, first-few, after, did-stops, did-goes}
+-- Set Network stands first, and the rest of the answer is concluded from the output: a start takes the state of the reply.
 use borrow.Author.Needs.{needs}
+use mathlib.Core.Path.{refl, ap, _∙_}
+use mathlib.Core.List.{List, [], _∷_}
+use Rattle.types.specs.Capacities.{network}
+use Rattle.rules.specs.Outcome.{base}
+use Rattle.rules.specs.Link as rules
+use Rattle.link_react.specs.Views.{replyOf}
+use Rattle.link_durable.specs.Views.{durableView}
+use Rattle.link_output.specs.declared.LinkCommand.{LinkCommand}
+use Rattle.link_output.specs.declared.LinkCommand.the-variants.{Set}
+use Rattle.link_output.specs.Views.{commandAs, outputAs}
+use Rattle.link_handlers.proofs.Handlers.{one-few, one-in, concludes}
 use Rattle.link_handlers.proofs.start_with.Statement.{statement}
 use Rattle.link_handlers.proofs.start_with.Tie as tie
 
-no-commands-requires : tie.Need-no-commands-requires
-no-commands-requires c κs = search needs
-
-push-requires : tie.Need-push-requires
-push-requires c κs = none-ready _ (c .no-commands .ensures)
+one-command-requires : tie.Need-one-command-requires
+one-command-requires c κs = search needs
 
 output-of-requires : tie.Need-output-of-requires
 output-of-requires c κs =
-    let f = first-few _ _ (Set 31) (c .before .no-commands .ensures) (c .push .ensures) in
-    (c .before .before .pre .0, f .0, f .1, c .before .before .pre .1)
+    let f = one-few _ (Set network) (c .one-command .ensures) in
+    (c .before .pre .0, f .0, f .1, c .before .pre .1)
 
-refuse-requires : tie.Need-refuse-requires
-refuse-requires c κs = search needs
+conclude-requires : tie.Need-conclude-requires
+conclude-requires c κs = search needs
 
 returns : tie.Need-returns
-unfolding rules.starting
+unfolding rules.starting rules.startedBy commandAs
 returns c = λ i.
-    let y = c .before .before .before .output-of .result in
-    c .refuse .ensures ∙ did-stops _ _ y (c .before .before .before .output-of .ensures i) _ (rules.startedBy (replyOf (c .before .before .before .before .before .before .args .r))) (not-true (y .going) (c .before .if1 .taken))
-
-returns-2 : tie.Need-returns-2
-unfolding answerOf rules.starting rules.startedBy commandAs
-returns-2 c = λ i.
-    let y = c .before .before .before .before .output-of .result in
-    let w = went _ _ y (c .before .before .before .before .output-of .ensures i) (not-false (y .going) (c .before .before .if1 .left)) in
-    did-is _ _ _ _ _ _ _ refl (link-is _ _ _ _ (w .durable) refl) (after _ (Set 31 ∷ []) _ (w .out .commands) (w .commands) (first-in _ _ (Set 31) (c .before .before .before .before .before .before .no-commands .ensures) (c .before .before .before .before .before .push .ensures)))
-    ∙ did-goes _ _ y (c .before .before .before .before .output-of .ensures i) _ (rules.startedBy (replyOf (c .before .before .before .before .before .before .before .args .r))) w
+    let a = c .before .before .before .args in
+    let m = rules.output (base .limits) i (durableView (a .d)) (replyOf (a .r) .out) in
+    let e = c .before .output-of .ensures i ∙ ap (λ (x : List LinkCommand). outputAs x m) (one-in _ (Set network) (c .before .before .one-command .ensures)) in
+    c .conclude .ensures ∙ concludes (Set network ∷ []) m (c .before .output-of .result) _ _ (rules.startedBy (replyOf (a .r))) e (λ o. refl)
 
 pub start-with-spec : {M : Type 1} → statement M
-start-with-spec =
-    tie.close
-    (tie.spec
-    no-commands-requires
-    push-requires
-    output-of-requires
-    refuse-requires
-    returns
-    returns-2)
+start-with-spec = tie.close (tie.spec one-command-requires output-of-requires conclude-requires returns)

@@ -1,3 +1,4 @@
+-- By the flag: without an echo anything passes.
 use borrow.Author.Tests.{not-false}
 use borrow.Author.Needs.{needs}
 use Rattle.link_inner.proofs.echo_ok.Statement.{statement}

@@ -1,3 +1,4 @@
+-- By the mark: a touched rule may move.
 use borrow.Author.Needs.{needs}
 use Rattle.link_inner.proofs.keeps_ok.Statement.{statement}
 use Rattle.link_inner.proofs.keeps_ok.Tie as tie

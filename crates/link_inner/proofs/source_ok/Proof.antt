@@ -1,3 +1,4 @@
+-- Without the flag anything passes. With it the event and then the destination decide.
 use borrow.Author.Tests.{eq-eqb, ne-eqb, not-false}
 use borrow.Author.Needs.{needs}
 use Rattle.link_inner.proofs.source_ok.Statement.{statement}

@@ -1,3 +1,4 @@
+-- A later event passes. A start rule is tested for its state, and then its mark decides.
 use borrow.Author.Tests.{eq-eqb, ne-eqb, le-leb, lt-leb}
 use Rattle.link_inner.proofs.start_ok.Statement.{statement}
 use Rattle.link_inner.proofs.start_ok.Tie as tie

@@ -1,3 +1,4 @@
+-- By the four kinds: only a set timer can be zero.
 use Rattle.rules.specs.WellFormed.{zeroCommand}
 use borrow.Author.Needs.{needs}
 use Rattle.link_inner.proofs.zero_command.Statement.{statement}

@@ -1,3 +1,4 @@
+-- By the four kinds.
 use Rattle.rules.specs.Link.{durably}
 use borrow.Author.Needs.{needs}
 use Rattle.link_output.proofs.is_durable.Statement.{statement}

@@ -1,3 +1,4 @@
+-- An array of zeros is what holds no command.
 use mathlib.Core.Path.{refl}
 use Rattle.lists.specs.Lists.{pad}
 use Rattle.link_output.proofs.no_commands.Statement.{statement}

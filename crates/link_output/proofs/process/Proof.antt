@@ -1,3 +1,4 @@
+-- What is left to tell, after what was told, gives what all of it gives. There is room: after i turns the list has at most one more than i.
 use borrow.Author.Needs.{needs}
 use borrow.Author.Tests.{not-true, not-false}
 use native.Mathlib.Omega.{arith}
@@ -7,6 +8,7 @@ use mathlib.Core.Bool.{true, false}
 use mathlib.Core.List.{List, [], _∷_}
 use lib.ListN.{length, take, drop, getD}
 use Rattle.lists.proofs.Places.{length-mapped}
+use Rattle.types.specs.Capacities.{mostCommands}
 use Rattle.types.specs.declared.Id.{Id}
 use Rattle.types.specs.declared.InnerCommand.{InnerCommand}
 use Rattle.answers.specs.Answers.{answerOf}
@@ -22,8 +24,10 @@ use Rattle.link_output.proofs.process.Statement.{statement}
 use Rattle.link_output.proofs.process.Tie as tie
 
 abbrev Inv-loop : tie.InvT-loop
-Inv-loop used told e₀ out₀ i₀ e out i = (used ≤ length told) × (used ≤ 4) × (i ≤ used) × Whole e × (out ≡ commandsOf (commandsIn out)) × (out .used ≤ i + 1)
-    × ((j : Id) → outputAs (commandsIn out₀) (rules.process (base .limits) j (durableView e₀) (tellings (take used told))) ≡ outputAs (commandsIn out) (rules.process (base .limits) j (durableView e) (tellings (drop i (take used told)))))
+Inv-loop used told e₀ out₀ i₀ e out i =
+    (used ≤ length told) × (used ≤ mostCommands) × (i ≤ used) × Whole e × (out ≡ commandsOf (commandsIn out)) × (out .used ≤ i + 1)
+    × ((j : Id) → outputAs (commandsIn out₀) (rules.process (base .limits) j (durableView e₀) (tellings (take used told)))
+    ≡ outputAs (commandsIn out) (rules.process (base .limits) j (durableView e) (tellings (drop i (take used told)))))
 
 abbrev μ-loop : tie.MeasureT-loop
 μ-loop used told e₀ out₀ i₀ e out i = used - i
@@ -31,7 +35,7 @@ abbrev μ-loop : tie.MeasureT-loop
 loop-holds : tie.Need-loop-holds Inv-loop μ-loop
 loop-holds c =
     let a = c .before in
-    let n : length (a .args .r .commands) ≡ 4 = search (needs, length-mapped, a .good .1 .1) in
+    let n : length (a .args .r .commands) ≡ mostCommands = search (needs, length-mapped, a .good .1 .1) in
     (omega arith, a .pre .3, search needs, a .pre .0, a .pre .1, a .pre .2, λ j. refl)
 
 mul-s : tie.Need-mul-s Inv-loop μ-loop
@@ -52,7 +56,8 @@ returns c = λ j.
     let x = getD (a .r .commands) (l .i) outside .command in
     let os = tellings (drop (l .i + 1) (take (a .r .used) (a .r .commands))) in
     turn-stops (base .limits) j (commandsIn (l .out)) (durableView (l .e)) x os y (c .before .before .process-one .ensures j) g
-    ∙ sym (l .inv .6 j ∙ ap (λ (z : List InnerCommand). outputAs (commandsIn (l .out)) (rules.process (base .limits) j (durableView (l .e)) z)) (next-told (a .r .commands) (a .r .used) (l .i) (l .inv .0) (search needs)))
+    ∙ sym (l .inv .6 j ∙ ap (λ (z : List InnerCommand). outputAs (commandsIn (l .out)) (rules.process (base .limits) j (durableView (l .e)) z))
+    (next-told (a .r .commands) (a .r .used) (l .i) (l .inv .0) (search needs)))
 
 add-i : tie.Need-add-i Inv-loop μ-loop
 add-i c = let l = c .before .before .before .before .before .before .before .loop in let u = l .inv .1 in search needs
@@ -68,8 +73,8 @@ loop-again c =
     let g : y .going ≡ true = not-false (y .going) (c .before .before .if1 .left) in
     let x = getD (a .r .commands) (l .i) outside .command in
     let os = tellings (drop (l .i + 1) (take (a .r .used) (a .r .commands))) in
-    let p = process-small (base .limits) nobody (durableView (l .e)) (x ∷ []) (omega arith) (whole-pend (l .e) (l .inv .3)) (whole-took (l .e) (l .inv .3)) in
-    let z = ready (base .limits) nobody (commandsIn (l .out)) _ y 1 p (c .before .before .before .before .process-one .ensures nobody) g in
+    let p = process-small (base .limits) nobody (durableView (l .e)) (x ∷ []) (whole-pend (l .e) (l .inv .3)) (whole-took (l .e) (l .inv .3)) in
+    let z = ready nobody (commandsIn (l .out)) _ y 1 p (c .before .before .before .before .process-one .ensures nobody) g in
     let q : l .out .used ≡ length (commandsIn (l .out)) = ap (λ (k : Commands). k .used) (l .inv .4) in
     let u = z .few in
     let v = l .inv .5 in (
@@ -80,7 +85,8 @@ loop-again c =
       z .same,
       omega arith,
       λ j. l .inv .6 j
-          ∙ ap (λ (z : List InnerCommand). outputAs (commandsIn (l .out)) (rules.process (base .limits) j (durableView (l .e)) z)) (next-told (a .r .commands) (a .r .used) (l .i) (l .inv .0) (search needs))
+          ∙ ap (λ (z : List InnerCommand). outputAs (commandsIn (l .out)) (rules.process (base .limits) j (durableView (l .e)) z))
+          (next-told (a .r .commands) (a .r .used) (l .i) (l .inv .0) (search needs))
           ∙ turn-goes (base .limits) j (commandsIn (l .out)) (durableView (l .e)) x os y (c .before .before .before .before .process-one .ensures j) g,
     )
 
@@ -93,7 +99,8 @@ returns-2 c = λ j.
     let a = c .before .before .before .before .args in
     let l = c .before .before .loop in
     c .going-on .ensures ∙ process-end (base .limits) j (l .e) (l .out) (l .inv .3) (l .inv .4)
-    ∙ sym (l .inv .6 j ∙ ap (λ (z : List InnerCommand). outputAs (commandsIn (l .out)) (rules.process (base .limits) j (durableView (l .e)) z)) (told-end (a .r .commands) (a .r .used) (l .i) (l .inv .0) (search needs)))
+    ∙ sym (l .inv .6 j ∙ ap (λ (z : List InnerCommand). outputAs (commandsIn (l .out)) (rules.process (base .limits) j (durableView (l .e)) z))
+    (told-end (a .r .commands) (a .r .used) (l .i) (l .inv .0) (search needs)))
 
 pub process-spec : {M : Type 1} → statement M
 process-spec =

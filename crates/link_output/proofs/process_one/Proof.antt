@@ -1,3 +1,4 @@
+-- By the four kinds: a timer's command is pushed, a Send has a function of its own, and a Save tells nothing.
 use mathlib.Core.Path.{_∙_}
 use mathlib.Core.Bool.{true}
 use Rattle.answers.specs.Answers.{answerOf}
@@ -44,18 +45,25 @@ going-on-requires-3 c κs = search needs
 
 returns : tie.Need-returns
 unfolding answerOf process also bind commandAs
-returns c = λ i. rw (c .before .before .before .c .given .1) (c .going-on .ensures ∙ output-is true (answerOf 0) _ _ _ _ (c .before .before .before .before .before .pre .0 .same) (c .before .push .ensures))
+returns c =
+    λ i. rw (c .before .before .before .c .given .1)
+    (c .going-on .ensures ∙ output-is true (answerOf 0) _ _ _ _ (c .before .before .before .before .before .pre .0 .same) (c .before .push .ensures))
 
 returns-2 : tie.Need-returns-2
 unfolding answerOf process also bind commandAs
-returns-2 c = λ i. rw (c .before .before .before .c2 .given .1) (c .going-on2 .ensures ∙ output-is true (answerOf 0) _ _ _ _ (c .before .before .before .before .before .pre .0 .same) (c .before .push2 .ensures))
+returns-2 c =
+    λ i. rw (c .before .before .before .c2 .given .1)
+    (c .going-on2 .ensures ∙ output-is true (answerOf 0) _ _ _ _ (c .before .before .before .before .before .pre .0 .same) (c .before .push2 .ensures))
 
 returns-3 : tie.Need-returns-3
 returns-3 c = λ i. rw (c .before .before .c3 .given .1) (c .send-one .ensures i)
 
 returns-4 : tie.Need-returns-4
 unfolding answerOf process
-returns-4 c = λ i. rw (c .before .before .before .c4 .given .1) (c .going-on3 .ensures ∙ output-is true (answerOf 0) _ _ _ _ (c .before .save-value .ensures) (unsent _ (c .before .before .before .before .before .pre .1)))
+returns-4 c =
+    λ i. rw (c .before .before .before .c4 .given .1)
+    (c .going-on3 .ensures ∙ output-is true (answerOf 0) _ _ _ _ (c .before .save-value .ensures)
+    (unsent _ (c .before .before .before .before .before .pre .1)))
 
 pub process-one-spec : {M : Type 1} → statement M
 process-one-spec =

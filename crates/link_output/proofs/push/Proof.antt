@@ -1,3 +1,4 @@
+-- The first place that is not used takes the command, so that the array holds the list with the command at its end.
 use Rattle.link_output.proofs.Outputs.{pushed}
 use borrow.Author.Needs.{needs}
 use Rattle.link_output.proofs.push.Statement.{statement}

@@ -1,3 +1,4 @@
+-- No command before place i is durable. One that is decides, and at the end none was.
 use borrow.Author.Needs.{needs}
 use native.Mathlib.Omega.{arith}
 use Prim.Native.Nat.{_≤_, _-_}
@@ -7,6 +8,7 @@ use lib.ListN.{length, take, drop}
 use Rattle.lists.specs.Lists.{all}
 use Rattle.lists.proofs.Places.{length-mapped}
 use Rattle.lists.proofs.Walks.{walk-on, walk-fails, walk-ends}
+use Rattle.types.specs.Capacities.{mostCommands}
 use Rattle.link_output.proofs.Outputs.{passing, saves-any, outside}
 use Rattle.link_output.proofs.saves.Statement.{statement}
 use Rattle.link_output.proofs.saves.Tie as tie
@@ -32,8 +34,9 @@ is-durable-requires c κs = search needs
 returns : tie.Need-returns Inv-loop μ-loop
 returns c =
     let a = c .before .before .before .before .before .before .args .r in let l = c .before .before .before .before .loop in
-    let n : length (a .commands) ≡ 4 = search (needs, length-mapped) in
-    let f = walk-fails passing (a .commands) (a .used) outside (omega arith) (l .i) _ (search needs) (ap not (sym (c .before .is-durable .ensures) ∙ c .if1 .taken)) (l .inv .1) in
+    let n : length (a .commands) ≡ mostCommands = search (needs, length-mapped) in
+    let f = walk-fails passing (a .commands) (a .used) outside (omega arith) (l .i) _ (search needs)
+    (ap not (sym (c .before .is-durable .ensures) ∙ c .if1 .taken)) (l .inv .1) in
     ap not f ∙ sym (saves-any (take (a .used) (a .commands)))
 
 add-i : tie.Need-add-i Inv-loop μ-loop
@@ -45,14 +48,18 @@ loop-less c = search needs
 loop-again : tie.Need-loop-again Inv-loop μ-loop
 loop-again c =
     let a = c .before .before .before .before .before .before .args .r in let l = c .before .before .before .before .loop in
-    let n : length (a .commands) ≡ 4 = search (needs, length-mapped) in
-    (search needs, walk-on passing (a .commands) (a .used) outside (omega arith) (l .i) _ (search needs) (ap not (sym (c .before .is-durable .ensures) ∙ c .if1 .left)) (l .inv .1))
+    let n : length (a .commands) ≡ mostCommands = search (needs, length-mapped) in (
+      search needs,
+      walk-on passing (a .commands) (a .used) outside (omega arith) (l .i) _ (search needs)
+          (ap not (sym (c .before .is-durable .ensures) ∙ c .if1 .left)) (l .inv .1),
+    )
 
 returns-2 : tie.Need-returns-2 Inv-loop μ-loop
 returns-2 c =
     let a = c .before .before .before .args .r in let l = c .before .loop in
-    let n : length (a .commands) ≡ 4 = search (needs, length-mapped) in
-    ap not (walk-ends passing (a .commands) (a .used) outside (omega arith) (l .i) _ (search needs) (l .inv .1)) ∙ sym (saves-any (take (a .used) (a .commands)))
+    let n : length (a .commands) ≡ mostCommands = search (needs, length-mapped) in
+    ap not (walk-ends passing (a .commands) (a .used) outside (omega arith) (l .i) _ (search needs) (l .inv .1))
+    ∙ sym (saves-any (take (a .used) (a .commands)))
 
 pub saves-spec : {M : Type 1} → statement M
 saves-spec =

@@ -1,3 +1,4 @@
+-- The two refusals are those of the rules, in their order. Where neither stands there is a number and room, so that the message is posted.
 use Prim.Native.Nat.{_<_}
 use native.Mathlib.Omega.{arith}
 use mathlib.Core.Path.{_≡_, sym, ap, _∙_}
@@ -71,7 +72,8 @@ going-on-requires c κs = search needs
 returns : tie.Need-returns
 returns c = λ i.
     let a = c .before .before .before .before .before .before .before .before .before .before .args in
-    c .stopped .ensures ∙ send-stops (base .limits) i (durableView (a .d)) (a .r) (a .p) (commandsIn (a .cs)) _ (sym (found (c .before .before .before .before)) ∙ c .before .before .refusal .given .1)
+    c .stopped .ensures ∙ send-stops (base .limits) i (durableView (a .d)) (a .r) (a .p) (commandsIn (a .cs)) _
+    (sym (found (c .before .before .before .before)) ∙ c .before .before .refusal .given .1)
 
 returns-2 : tie.Need-returns-2
 unfolding answerOf commandAs

@@ -1,3 +1,4 @@
+-- A refusal leaves a fresh part and no command, whatever went before.
 use Rattle.link_output.proofs.Outputs.{output-is}
 use borrow.Author.Needs.{needs}
 use Rattle.link_output.proofs.stopped.Statement.{statement}

@@ -12,6 +12,9 @@ returns c = sym (first-none (c .before .args .self .0) (c .before .args .from) (
 shl-rest : tie.Need-shl-rest
 shl-rest c = search needs
 
+cast-if2 : tie.Need-cast-if2
+cast-if2 c = search needs
+
 returns-2 : tie.Need-returns-2
 returns-2 c =
     let a = c .before .before .before .args in
@@ -26,4 +29,4 @@ returns-3 c =
     next-timer (a .self .0) (a .from) (search needs) (search needs) (c .if2 .left)
 
 pub next-spec : {M : Type 1} → statement M
-next-spec = tie.close (tie.spec returns shl-rest returns-2 cast-t8 returns-3)
+next-spec = tie.close (tie.spec returns shl-rest cast-if2 returns-2 cast-t8 returns-3)

@@ -1,4 +1,4 @@
--- A timer above 31 and one that is set change nothing; for any other, the word with its bit holds the list with the timer in its place.
+-- A timer above Network and one that is set change nothing. For any other, the word with its bit holds the list with the timer in its place.
 use mathlib.Core.Path.{sym, _∙_}
 use borrow.Author.Needs.{needs}
 use Rattle.rules.proofs.Timers.{set-above}
