@@ -33,7 +33,8 @@ use Rattle.link_react.specs.declared.Reaction.{Reaction}
 use Rattle.link_inner.specs.declared.Table.{Table}
 use Rattle.link_inner.specs.Views.{rulesOf, tableOk}
 use Rattle.link_react.specs.Views.{reactionOf, replyOf}
-use Rattle.link_inner.proofs.Tables.{sound-rules, table-is}
+use Rattle.rules.proofs.Formed.{sound-rules}
+use Rattle.link_inner.proofs.Tables.{table-is}
 use Rattle.link_react.proofs.Replies.{reply-few, start-few, reply-back}
 use Rattle.link_durable.specs.declared.Durable.{Durable}
 use Rattle.link_durable.specs.declared.Stored.{Stored}

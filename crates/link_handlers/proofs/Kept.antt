@@ -15,7 +15,8 @@ use Rattle.rules.proofs.Laws.{Holds}
 use Rattle.rules.proofs.FormedLink as formed
 use Rattle.link_inner.specs.declared.Table.{Table}
 use Rattle.link_inner.specs.Views.{rulesOf, tableOk}
-use Rattle.link_inner.proofs.Tables.{sound-rules, table-is}
+use Rattle.rules.proofs.Formed.{sound-rules}
+use Rattle.link_inner.proofs.Tables.{table-is}
 use Rattle.link_durable.specs.declared.Stored.{Stored}
 use Rattle.link_durable.specs.Views.{durableView, storedView, durableFine, storedFine}
 use Rattle.link_durable.proofs.Kept.{fine-formed, stored-formed, durable-kept}

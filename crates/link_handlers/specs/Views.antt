@@ -8,7 +8,7 @@ use Rattle.lists.specs.Lists.{choose}
 use Rattle.types.specs.declared.Id.{Id}
 use Rattle.types.specs.declared.Message.{Message}
 use Rattle.answers.specs.Answers.{answerOf}
-use Rattle.rules.specs.Outcome.{Outcome, done, refused, base}
+use Rattle.rules.specs.Outcome.{Outcome, handedBack, base}
 use Rattle.rules.specs.Link as rules
 use Rattle.link_inner.specs.declared.Table.{Table}
 use Rattle.link_inner.specs.Views.{rulesOf}
@@ -32,8 +32,9 @@ toldBy h = map (commandView (durableView (h .link .durable))) (commandsIn (h .co
 
 -- ---- what a handler gives: a refusal hands back the link l. The events are for theorems only.
 abbrev pub didAs : Link → Outcome rules.Did → Did
-didAs l (done h) = record { answer = answerOf 0; link = linkAs (h .link); touched = h .touched; commands = commandsOf (map commandAs (h .commands)) }
-didAs l (refused n) = record { answer = answerOf n; link = l; touched = false; commands = commandsOf [] }
+didAs l m =
+    handedBack (λ k x. record { answer = k; link = x .0; touched = x .1; commands = x .2 })
+    (λ h. (linkAs (h .link), h .touched, commandsOf (map commandAs (h .commands)))) (l, false, commandsOf []) m
 
 -- What is made of an output y: the refusal, or the link that it leaves, in the state s.
 abbrev pub concluded : Link → Output → ℕ → Did

@@ -60,10 +60,6 @@ ranges-used r e =
 pub rule-used : (r : Rule) → ruleOk r ≡ true → r .used ≤ mostCommands
 rule-used r e = ranges-used r (every-cons _ _ (sym (rule-parts r) ∙ e) .0)
 
-pub sound-rules : (rs : List Rule) → sound rs ≡ true → all ruleOk rs ≡ true
-unfolding sound
-sound-rules rs e = and-both (leb (length rs) mostRules) _ e .1
-
 -- ---- the places of a table
 pub rules-used : (t : Table) → all (rulePasses false) (rulesOf t) ≡ all ruleOk (rulesOf t)
 unfolding choose

@@ -25,7 +25,8 @@ use Rattle.rules.specs.Inner.{Reply, matches, told, commandsOf, decided, reply,
 use Rattle.rules.specs.WellFormed.{ruleOk, sound}
 use Rattle.link_react.specs.declared.InnerSlot.{InnerSlot}
 use Rattle.link_react.specs.declared.Reaction.{Reaction}
-use Rattle.link_inner.proofs.Tables.{outside, rule-used, sound-rules}
+use Rattle.rules.proofs.Formed.{sound-rules}
+use Rattle.link_inner.proofs.Tables.{outside, rule-used}
 use Rattle.link_react.specs.Views.{mismatches, slot, slotsOf, reactionOf, replyOf}
 
 -- ---- a rule's commands
