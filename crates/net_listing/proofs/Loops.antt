@@ -14,6 +14,7 @@ use borrow.Author.Tests.{lt-ltb, le-ltb}
 use Rattle.lists.specs.Lists.{choose}
 use Rattle.types.specs.declared.Entry.{Entry}
 use Rattle.types.specs.declared.Kind.{Kind}
+use Rattle.types.specs.Capacities.{mostEntries}
 use Rattle.net_network.specs.Views.{zeroEntry}
 use Rattle.net_listing.specs.declared.Step.{Step}
 use Rattle.net_listing.specs.declared.Step.the-variants as step
@@ -22,11 +23,11 @@ use Rattle.net_listing.specs.declared.Offer.the-variants as offer
 use Rattle.net_listing.specs.Listing.{listedFrom, opens, shows, offeredFrom}
 
 -- A count above the array's room names the whole array.
-module _ (es : List Entry) (used u at : ℕ) (room : length es ≡ 128) (e : u ≡ min used 128) where
+module _ (es : List Entry) (used u at : ℕ) (room : length es ≡ mostEntries) (e : u ≡ min used mostEntries) where
   same-list : take u es ≡ take used es
-  same-list = go (decLt 128 used)
+  same-list = go (decLt mostEntries used)
     where
-      go : Dec (128 < used) → take u es ≡ take used es
+      go : Dec (mostEntries < used) → take u es ≡ take used es
       go (yes h) = take-all u es (omega arith) ∙ sym (take-all used es (omega arith))
       go (no h) = let f : u ≡ used = omega arith in rw f
 

@@ -10,6 +10,8 @@ use types::LastMessage;
 use types::Message;
 use types::Number;
 use types::Payload;
+use types::MOST_COPIES;
+use types::MOST_ENTRIES;
 ghost use mathlib.Core.Path.{_≡_};
 ghost use mathlib.Core.Bool.{not};
 ghost use mathlib.Core.List.{[]};
@@ -18,6 +20,7 @@ ghost use lib.ListN.{getD, set};
 ghost use Rattle.lists.specs.Lists.{lead, ins};
 ghost use Rattle.types.specs.declared.Kind.the-variants.{Ordered};
 ghost use Rattle.types.specs.declared.LastMessage.the-variants.{Nothing};
+ghost use Rattle.types.specs.Capacities.{mostEntries, mostCopies};
 ghost use Rattle.types.specs.Order.{same};
 ghost use Rattle.rules.specs.Outcome.{done, base};
 ghost use Rattle.rules.specs.Network.{single, again, send, onDeliver, onDrop, len};
@@ -27,7 +30,7 @@ ghost use Rattle.net_network.specs.Parts.{copiesOf, entered, fitting, ta
 // Places from the used count on hold the zero entry.
 pub struct Network {
     pub kind: Kind,
-    pub entries: [Entry; 128],
+    pub entries: [Entry; MOST_ENTRIES],
     pub used: usize,
     pub last: LastMessage,
 }
@@ -58,7 +61,7 @@ pub fn blank(kind: Kind) -> Network
     let z = zero_entry();
     Network {
         kind: kind,
-        entries: [z; 128],
+        entries: [z; MOST_ENTRIES],
         used: 0,
         last: LastMessage::Nothing,
     }
@@ -70,7 +73,7 @@ fn insert_entry(n: Network, at: usize, e: Envelope) -> Sent
     ensures { λ r. ⌜ r ≡ sentOf n (fitting n (ins at (single e) (entryList n))) ⌝ }
 {
     let used = n.used;
-    if 128 <= used {
+    if MOST_ENTRIES <= used {
         return Sent {
             answer: Answer::NetworkFull,
             network: n,
@@ -115,7 +118,7 @@ fn count_up(n: Network, at: usize) -> Sent
     let more = copies(kind);
     let mut es = n.entries;
     let x = es[at];
-    if 65535 - more < x.count {
+    if MOST_COPIES - more < x.count {
         return Sent {
             answer: Answer::NetworkFull,
             network: n,
@@ -289,14 +292,14 @@ pub fn on_deliver(n: Network, e: Envelope) -> Sent
 }
 
 fn wide(count: u16) -> u64
-    ensures { λ r. ⌜ (r ≡ count) × (r < 65536) ⌝ }
+    ensures { λ r. ⌜ (r ≡ count) × (r ≤ mostCopies) ⌝ }
 {
     count as u64
 }
 
 // Set size, sum of counts, or sum of flow lengths.
 pub fn len(n: Network) -> u64
-    requires { ⌜ n .used ≤ 128 ⌝ }
+    requires { ⌜ n .used ≤ mostEntries ⌝ }
     ensures { λ r. ⌜ r ≡ len (entryList n) ⌝ }
 {
     let es = n.entries;

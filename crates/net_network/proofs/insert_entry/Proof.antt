@@ -1,3 +1,4 @@
+use Rattle.rules.specs.Network.{single}
 use Rattle.net_network.proofs.Changes.{insert-full, insert-done}
 use borrow.Author.Needs.{needs}
 use Rattle.net_network.proofs.insert_entry.Statement.{statement}
@@ -13,6 +14,7 @@ add-t13 : tie.Need-add-t13
 add-t13 c = search needs
 
 returns-2 : tie.Need-returns-2
+unfolding single
 returns-2 c =
     let s = c .before .before .before in
     insert-done (s .args .n) (s .pre .0) (s .args .at) (s .args .e) (s .pre .1) (c .before .before .if1 .left) (c .insert-at .result) (c .insert-at .ensures)

@@ -1,5 +1,6 @@
 use mathlib.Core.Path.{ap, _∙_}
 use Rattle.lists.specs.Lists.{shrink}
+use Rattle.rules.specs.Network.{lowered}
 use Rattle.net_network.proofs.Changes.{take-last, take-more}
 use borrow.Author.Needs.{needs}
 use Rattle.net_network.proofs.take_out.Statement.{statement}
@@ -37,6 +38,7 @@ array-set-from-es : tie.Need-array-set-from-es
 array-set-from-es c = search needs
 
 returns-2 : tie.Need-returns-2
+unfolding lowered
 returns-2 c =
     let s = c .before .before .before .before .before .before in
     take-more (s .args .n) (s .pre .0 .laid) (s .args .at) (s .pre .1) (c .before .before .if1 .left)
