@@ -80,7 +80,12 @@ pub fn sorted_place(entries: [Entry; MOST_ENTRIES], used: usize, e: Envelope) ->
 }
 
 // The array with x at a place; what stood there and after it, up to the count, goes one place on.
-pub fn insert_at(entries: [Entry; MOST_ENTRIES], used: usize, at: usize, x: Entry) -> [Entry; MOST_ENTRIES]
+pub fn insert_at(
+    entries: [Entry; MOST_ENTRIES],
+    used: usize,
+    at: usize,
+    x: Entry,
+) -> [Entry; MOST_ENTRIES]
     requires { ⌜ (at ≤ used) × (used < mostEntries) ⌝ }
     ensures { λ r. ⌜ r ≡ grow used at x entries ⌝ }
 {
@@ -98,7 +103,12 @@ pub fn insert_at(entries: [Entry; MOST_ENTRIES], used: usize, at: usize, x: Entr
 }
 
 // The array without what stands at a place; what stood after it goes one place down, and the place that is freed holds z.
-pub fn remove_at(entries: [Entry; MOST_ENTRIES], used: usize, at: usize, z: Entry) -> [Entry; MOST_ENTRIES]
+pub fn remove_at(
+    entries: [Entry; MOST_ENTRIES],
+    used: usize,
+    at: usize,
+    z: Entry,
+) -> [Entry; MOST_ENTRIES]
     requires { ⌜ (at < used) × (used ≤ mostEntries) ⌝ }
     ensures { λ r. ⌜ r ≡ shrink used at z entries ⌝ }
 {

@@ -1,3 +1,5 @@
+-- An envelope's key is its flow's and then its message's, so the order is that of the flows, then that of the messages.
+-- Assumes nothing.
 use Rattle.types.proofs.Laws.{envelope-split}
 use borrow.Author.Needs.{needs}
 use Rattle.net_compare.proofs.compare_envelopes.Statement.{statement}

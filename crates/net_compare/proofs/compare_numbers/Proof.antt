@@ -1,3 +1,5 @@
+-- Each way out knows which of the two is smaller, and the definition asks the same two questions.
+-- Assumes nothing.
 use borrow.Author.Tests.{lt-ltb, le-ltb}
 use Rattle.net_compare.proofs.compare_numbers.Statement.{statement}
 use Rattle.net_compare.proofs.compare_numbers.Tie as tie

@@ -1,3 +1,5 @@
+-- Each turn puts down what is carried and takes up what stood there. So carrying an entry at i is the same insertion as x at `at` was.
+-- Assumes nothing.
 use borrow.Author.Needs.{needs}
 use native.Mathlib.Omega.{arith}
 use Prim.Native.Nat.{_≤_, _-_}

@@ -1,4 +1,4 @@
--- `is_duplicating` meets its contract. Each arm knows the kind.
+-- Each arm knows the kind.
 -- Assumes nothing.
 use borrow.Author.Needs.{needs}
 use Rattle.rules.specs.Network.{isDuplicating}

@@ -1,4 +1,4 @@
--- `last_ok` meets its contract. No last message is fine; one is fine on kind 1 from a known source.
+-- No last message is fine. One is fine on kind 1 from a known source.
 -- Assumes nothing.
 use mathlib.Core.Path.{sym, _∙_}
 use borrow.Author.Tests.{not-true, not-false}
@@ -29,7 +29,9 @@ source-known-requires c κs = search needs
 
 returns-3 : tie.Need-returns-3
 unfolding lastOk
-returns-3 c = rw (c .before .before .before .before .last .given .1, sym (c .before .before .is-duplicating .ensures) ∙ not-false _ (c .before .if1 .left)) (c .source-known .ensures)
+returns-3 c =
+    rw (c .before .before .before .before .last .given .1, sym (c .before .before .is-duplicating .ensures) ∙ not-false _ (c .before .if1 .left))
+    (c .source-known .ensures)
 
 pub last-ok-spec : {M : Type 1} → statement M
 last-ok-spec =

@@ -1,3 +1,5 @@
+-- Only this entry's count changes, so it alone decides whether there is room.
+-- Assumes nothing.
 use native.Mathlib.Omega.{arith}
 use Rattle.net_network.proofs.Changes.{copies-few, count-full, count-done}
 use borrow.Author.Needs.{needs}
@@ -35,7 +37,9 @@ returns-2 : tie.Need-returns-2
 returns-2 c =
     let k = c .before .before .before .before .before .before in
     let s = k .before in
-    rw (k .copies .ensures) (count-done (s .args .n) (s .pre .0) (s .args .at) (s .pre .1) (omega (arith, copies-few (s .args .n .kind), k .copies .ensures, c .before .before .if1 .left)))
+    rw (k .copies .ensures)
+    (count-done (s .args .n) (s .pre .0) (s .args .at) (s .pre .1)
+    (omega (arith, copies-few (s .args .n .kind), k .copies .ensures, c .before .before .if1 .left)))
 
 pub count-up-spec : {M : Type 1} → statement M
 count-up-spec =

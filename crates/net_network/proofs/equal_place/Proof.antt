@@ -1,3 +1,5 @@
+-- On kind 0 all entries are looked at. On kinds 1 and 2 they ascend, so the look-up's place is the one.
+-- Assumes nothing.
 use Rattle.net_network.specs.Views.{entryList}
 use Rattle.net_network.proofs.ByKind.{ascend, set-sorted, counted-sorted}
 use borrow.Author.Needs.{needs}

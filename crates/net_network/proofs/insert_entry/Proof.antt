@@ -1,3 +1,5 @@
+-- One entry more fits where the array has a free place, and then every count is as it was, or 1.
+-- Assumes nothing.
 use Rattle.rules.specs.Network.{single}
 use Rattle.net_network.proofs.Changes.{insert-full, insert-done}
 use borrow.Author.Needs.{needs}

@@ -1,3 +1,5 @@
+-- After i turns the sum is that of the first i counts. Each is at most mostCopies, so the sum stays below 2^64.
+-- Assumes nothing.
 use lib.ListN.{length, take}
 use mathlib.Core.Path.{_≡_, ap, _∙_}
 use Rattle.lists.proofs.Places.{length-mapped}

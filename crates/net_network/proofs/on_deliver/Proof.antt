@@ -1,3 +1,5 @@
+-- On kinds 0 and 2 one copy goes. On kind 1 nothing goes, and the last message is this one.
+-- Assumes nothing.
 use mathlib.Core.Path.{ap}
 use Rattle.rules.specs.Network.{isDuplicating}
 use Rattle.net_network.proofs.ByKind.{delivered-one, delivered-copy}

@@ -1,3 +1,5 @@
+-- Each arm knows the kind, and what it calls promises the rules' send on that kind.
+-- Assumes nothing.
 use Rattle.net_network.proofs.ByKind.{set-sorted, counted-sorted}
 use borrow.Author.Needs.{needs}
 use Rattle.net_network.proofs.send.Statement.{statement}

@@ -1,3 +1,5 @@
+-- The last copy takes its entry along, and any other lowers the count: the two cases of the rules.
+-- Assumes nothing.
 use mathlib.Core.Path.{ap, _∙_}
 use Rattle.lists.specs.Lists.{shrink}
 use Rattle.rules.specs.Network.{lowered}
