@@ -17,7 +17,6 @@ ghost use lib.Seq.{slice};
 ghost use Rattle.lists.specs.Lists.{all, chain};
 ghost use Rattle.types.specs.Capacities.{mostEntries};
 ghost use Rattle.rules.specs.Outcome.{base};
-ghost use Rattle.rules.specs.Network.{isDuplicating};
 ghost use Rattle.rules.specs.WellFormed.{sourceKnown, countOk, inOrder, lastOk};
 ghost use Rattle.net_network.specs.Views.{NetLaid};
 ghost use Rattle.net_formed.specs.Formed.{zeroed, passOf, netFormed};
@@ -108,26 +107,18 @@ fn in_order(kind: Kind, entries: [Entry; MOST_ENTRIES], used: usize) -> bool
     true
 }
 
-fn is_duplicating(kind: Kind) -> bool
-    ensures { λ r. ⌜ r ≡ isDuplicating kind ⌝ }
-{
-    match kind {
-        Kind::Ordered => false,
-        Kind::UnorderedDuplicating => true,
-        Kind::UnorderedNonDuplicating => false,
-    }
-}
-
+// On kind 1 alone.
 fn last_ok(kind: Kind, last: LastMessage, actors: usize) -> bool
     ensures { λ r. ⌜ r ≡ lastOk actors kind last ⌝ }
 {
     let LastMessage::Delivered(e) = last else {
         return true;
     };
-    if !is_duplicating(kind) {
-        return false;
+    match kind {
+        Kind::Ordered => false,
+        Kind::UnorderedDuplicating => source_known(e, actors),
+        Kind::UnorderedNonDuplicating => false,
     }
-    source_known(e, actors)
 }
 
 pub fn net_ok(n: Network, actors: usize) -> bool
