@@ -15,15 +15,14 @@ use Rattle.types.specs.declared.Entry.{Entry}
 use Rattle.types.specs.declared.Kind.{Kind}
 use Rattle.types.specs.declared.Kind.the-variants.{Ordered, UnorderedDuplicating, UnorderedNonDuplicating}
 use Rattle.types.specs.Capacities.{mostEntries}
-use Rattle.answers.specs.declared.Answer.the-variants.{Done, NetworkFull}
+use Rattle.answers.specs.declared.Answer.the-variants.{NetworkFull}
 use Rattle.answers.specs.Answers.{answerOf}
 use Rattle.rules.specs.Outcome.{done, guard, base}
 use Rattle.rules.specs.Network.{single, again, lowered, fits}
 use Rattle.net_entries.proofs.Tests.{all-ins, all-set}
 use Rattle.net_network.specs.declared.Network.{Network}
-use Rattle.net_network.specs.declared.Sent.{Sent}
 use Rattle.net_network.specs.Views.{zeroEntry, entryList, netView, networkOf, NetLaid, countFits, NetReady, back, sentOf}
-use Rattle.net_network.specs.Parts.{copiesOf, entered, fitting, takenAt}
+use Rattle.net_network.specs.Parts.{copiesOf, changed, entered, fitting, takenAt}
 
 -- A send of an equal entry, as the code counts it.
 pub again-is : (k : Kind) (x : Entry) → again k x ≡ record { envelope = x .envelope; count = x .count + copiesOf k }
@@ -38,10 +37,6 @@ copies-few UnorderedDuplicating = omega arith
 copies-few UnorderedNonDuplicating = omega arith
 
 -- ---- what fits
--- Done, with another array and count.
-abbrev changed : Network → List Entry → ℕ → Sent
-changed n es u = back Done (record { kind = n .kind; entries = es; used = u; last = n .last })
-
 module _ (n : Network) (l : List Entry) where
   refuses : fits (base .room) (entered n l) ≡ false → back NetworkFull n ≡ sentOf n (fitting n l)
   unfolding guard answerOf
@@ -124,15 +119,22 @@ module _ (n : Network) (ready : NetReady n) where
       ∙ admits n _
       (rw (le-leb (length (ins at (single e) (entryList n))) mostEntries (omega arith)) (all-ins countFits at (single e) (entryList n) (ready .counts)))
 
-  module _ (at : ℕ) (h : at < n .used) where
+  -- more is what the code adds to the count
+  module _ (at : ℕ) (h : at < n .used) (more : ℕ) (m : more ≡ copiesOf (n .kind)) where
     abbrev there : Entry
     there = getD (n .entries) at zeroEntry
+
+    abbrev raised : Entry
+    raised = record { envelope = there .envelope; count = there .count + more }
 
     abbrev counts-up : List Entry
     counts-up = set (entryList n) at (again (n .kind) (getD (entryList n) at zeroEntry))
 
+    raised-is : again (n .kind) there ≡ raised
+    raised-is = rw m (again-is (n .kind) there)
+
     -- the count alone decides whether it fits
-    fits-by : fits (base .room) (entered n counts-up) ≡ leb (there .count + copiesOf (n .kind)) (base .room .copies)
+    fits-by : fits (base .room) (entered n counts-up) ≡ countFits raised
     unfolding fits
     fits-by =
         let v = used-is n (ready .laid) in
@@ -140,13 +142,10 @@ module _ (n : Network) (ready : NetReady n) where
         let f = ready .laid .fit in
         rw (le-leb (length counts-up) mostEntries (omega arith))
         (all-set countFits at _ (entryList n) (omega arith) (ready .counts)
-        ∙ ap (λ (x : Entry). countFits x) (ap (again (n .kind)) (sym (got n (ready .laid) at)) ∙ again-is (n .kind) there))
+        ∙ ap (λ (x : Entry). countFits x) (ap (again (n .kind)) (sym (got n (ready .laid) at)) ∙ raised-is))
 
-    pub count-full : base .room .copies < there .count + copiesOf (n .kind) → back NetworkFull n ≡ sentOf n (fitting n counts-up)
+    pub count-full : base .room .copies < there .count + more → back NetworkFull n ≡ sentOf n (fitting n counts-up)
     count-full k = refuses n _ (fits-by ∙ lt-leb _ _ k)
 
-    pub count-done
-        : there .count + copiesOf (n .kind) ≤ base .room .copies
-        → changed n (set (n .entries) at (record { envelope = there .envelope; count = there .count + copiesOf (n .kind) })) (n .used)
-        ≡ sentOf n (fitting n counts-up)
-    count-done k = rw (← again-is (n .kind) there) (replaced n (ready .laid) (again (n .kind)) at h ∙ admits n _ (fits-by ∙ le-leb _ _ k))
+    pub count-done : there .count + more ≤ base .room .copies → changed n (set (n .entries) at raised) (n .used) ≡ sentOf n (fitting n counts-up)
+    count-done k = rw (← raised-is) (replaced n (ready .laid) (again (n .kind)) at h ∙ admits n _ (fits-by ∙ le-leb _ _ k))

@@ -22,6 +22,10 @@ copiesOf Ordered = 0
 copiesOf UnorderedDuplicating = 0
 copiesOf UnorderedNonDuplicating = 1
 
+-- Done, with another array and count.
+abbrev pub changed : Network → List Entry → ℕ → Sent
+changed n es u = back Done (record { kind = n .kind; entries = es; used = u; last = n .last })
+
 -- The network with other entries; the same, if they fit.
 abbrev pub entered : Network → List Entry → Net
 entered n l = record { kind = n .kind; entries = l; last = n .last }

@@ -25,7 +25,7 @@ ghost use Rattle.types.specs.Order.{same};
 ghost use Rattle.rules.specs.Outcome.{done, base};
 ghost use Rattle.rules.specs.Network.{single, again, send, onDeliver, onDrop, len};
 ghost use Rattle.net_network.specs.Views.{zeroEntry, entryList, netView, networkOf, NetReady, sentOf};
-ghost use Rattle.net_network.specs.Parts.{copiesOf, entered, fitting, takenAt, takenOr, absentOf};
+ghost use Rattle.net_network.specs.Parts.{copiesOf, changed, entered, fitting, takenAt, takenOr, absentOf};
 
 // Places from the used count on hold the zero entry.
 pub struct Network {
@@ -67,6 +67,23 @@ pub fn blank(kind: Kind) -> Network
     }
 }
 
+// Done, with other entries.
+fn changed(n: Network, entries: [Entry; MOST_ENTRIES], used: usize) -> Sent
+    ensures { λ r. ⌜ r ≡ changed n entries used ⌝ }
+{
+    let kind = n.kind;
+    let last = n.last;
+    Sent {
+        answer: Answer::Done,
+        network: Network {
+            kind: kind,
+            entries: entries,
+            used: used,
+            last: last,
+        },
+    }
+}
+
 // A new entry at a place, if there is room.
 fn insert_entry(n: Network, at: usize, e: Envelope) -> Sent
     requires { ⌜ NetReady n × (at ≤ n .used) ⌝ }
@@ -85,17 +102,7 @@ fn insert_entry(n: Network, at: usize, e: Envelope) -> Sent
         count: 1,
     };
     let grown = net_entries::insert_at(es, used, at, x);
-    let kind = n.kind;
-    let last = n.last;
-    Sent {
-        answer: Answer::Done,
-        network: Network {
-            kind: kind,
-            entries: grown,
-            used: used + 1,
-            last: last,
-        },
-    }
+    changed(n, grown, used + 1)
 }
 
 // The copies that a send adds to an equal entry: a set holds one.
@@ -129,16 +136,7 @@ fn count_up(n: Network, at: usize) -> Sent
         envelope: v,
         count: x.count + more,
     };
-    let last = n.last;
-    Sent {
-        answer: Answer::Done,
-        network: Network {
-            kind: kind,
-            entries: es,
-            used: n.used,
-            last: last,
-        },
-    }
+    changed(n, es, n.used)
 }
 
 // One copy less of the entry at a place; the last one takes the entry along.
@@ -148,36 +146,18 @@ fn take_out(n: Network, at: usize) -> Sent
 {
     let mut es = n.entries;
     let used = n.used;
-    let kind = n.kind;
-    let kept = n.last;
     let x = es[at];
     if x.count <= 1 {
         let z = zero_entry();
         let shrunk = net_entries::remove_at(es, used, at, z);
-        return Sent {
-            answer: Answer::Done,
-            network: Network {
-                kind: kind,
-                entries: shrunk,
-                used: used - 1,
-                last: kept,
-            },
-        };
+        return changed(n, shrunk, used - 1);
     }
     let v = x.envelope;
     es[at] = Entry {
         envelope: v,
         count: x.count - 1,
     };
-    Sent {
-        answer: Answer::Done,
-        network: Network {
-            kind: kind,
-            entries: es,
-            used: used,
-            last: kept,
-        },
-    }
+    changed(n, es, used)
 }
 
 // After its flow.
