@@ -60,10 +60,6 @@ module _ (n : Network) (room : length (n .entries) ≡ mostEntries) where
   unfolding netFormed
   formed-laid k e = laid-out (and-both (laidOut n) _ e .0)
 
-  pub formed-ok : (k : ℕ) → netFormed n k ≡ true → netOk (base .room) k (netView n) ≡ true
-  unfolding netFormed
-  formed-ok k e = and-both (laidOut n) _ e .1
-
   pub laid-passes : NetLaid n → laidOut n ≡ true
   unfolding laidOut pad
   laid-passes h =
