@@ -4,7 +4,10 @@ use Prim.Native.Nat.{ℕ, _≤_, _<_}
 use native.Mathlib.Omega.{arith}
 use native.Mathlib.Decide.{decLe, decLt}
 use mathlib.Core.Path.{_≡_, refl, sym, ap, _∙_}
+use mathlib.Core.Logic.{_⊎_, ⊎-elim}
 use mathlib.Core.Bool.{Bool, true, false, not, true≢false}
+use denote.Enum.Declared.{tagOf}
+use Rattle.types.proofs.Kind.{the-type}
 use mathlib.Core.List.{List}
 use lib.ListN.{length, getD, set}
 use borrow.Author.Tests.{le-leb, lt-leb}
@@ -32,11 +35,17 @@ use Rattle.net_network.specs.Parts.{entered, fitting, takenAt, takenOr, 
 use Rattle.net_network.proofs.Changes.{used-is, held}
 
 -- ---- the kinds
-pub set-sorted : (k : Kind) → k ≡ UnorderedDuplicating → k ≡ Ordered → ⊥
-set-sorted k h o = let z : _≡_ {A = ℕ} 0 1 = cc in omega arith
+-- What an arm for the rest of the kinds knows is their numbers.
+pub not-ordered : (k : Kind) → (tagOf the-type k ≡ 1) ⊎ (tagOf the-type k ≡ 2) → k ≡ Ordered → ⊥
+not-ordered Ordered h o = ⊎-elim (λ z. omega arith) (λ z. omega arith) h
+not-ordered UnorderedDuplicating h o = let z : _≡_ {A = ℕ} 0 1 = cc in omega arith
+not-ordered UnorderedNonDuplicating h o = let z : _≡_ {A = ℕ} 0 1 = cc in omega arith
 
-pub counted-sorted : (k : Kind) → k ≡ UnorderedNonDuplicating → k ≡ Ordered → ⊥
-counted-sorted k h o = let z : _≡_ {A = ℕ} 0 1 = cc in omega arith
+pub not-duplicating : (k : Kind) → (tagOf the-type k ≡ 0) ⊎ (tagOf the-type k ≡ 2) → isDuplicating k ≡ false
+unfolding isDuplicating
+not-duplicating Ordered h = refl
+not-duplicating UnorderedDuplicating h = absurd (⊎-elim (λ z. omega arith) (λ z. omega arith) h)
+not-duplicating UnorderedNonDuplicating h = refl
 
 -- On kinds 1 and 2 the entries ascend.
 pub ascend : (k : Kind) (l : List Entry) → (k ≡ Ordered → ⊥) → chain (inOrder k) l ≡ true → chain stands l ≡ true

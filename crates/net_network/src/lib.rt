@@ -191,8 +191,7 @@ pub fn send(n: Network, e: Envelope) -> Sent
     let kind = n.kind;
     match kind {
         Kind::Ordered => send_ordered(n, e),
-        Kind::UnorderedDuplicating => send_sorted(n, e),
-        Kind::UnorderedNonDuplicating => send_sorted(n, e),
+        _ => send_sorted(n, e),
     }
 }
 
@@ -206,8 +205,7 @@ fn equal_place(n: Network, e: Envelope) -> usize
     let kind = n.kind;
     match kind {
         Kind::Ordered => net_entries::scan(Look::Differs, es, used, e),
-        Kind::UnorderedDuplicating => net_entries::sorted_place(es, used, e),
-        Kind::UnorderedNonDuplicating => net_entries::sorted_place(es, used, e),
+        _ => net_entries::sorted_place(es, used, e),
     }
 }
 
@@ -253,7 +251,6 @@ pub fn on_deliver(n: Network, e: Envelope) -> Sent
 {
     let kind = n.kind;
     match kind {
-        Kind::Ordered => take_one(n, e, Answer::Absent),
         Kind::UnorderedDuplicating => {
             let es = n.entries;
             let message = LastMessage::Delivered(e);
@@ -267,7 +264,7 @@ pub fn on_deliver(n: Network, e: Envelope) -> Sent
                 },
             }
         }
-        Kind::UnorderedNonDuplicating => take_one(n, e, Answer::Absent),
+        _ => take_one(n, e, Answer::Absent),
     }
 }
 
