@@ -29,30 +29,27 @@ pub fn and_then(a: Order, b: Order) -> Order
     }
 }
 
-fn tag_of(m: Message) -> u64
-    ensures { λ r. ⌜ r ≡ tagOf m ⌝ }
-{
-    match m {
-        Message::Deliver(_, _) => 0,
-        Message::Ack(_) => 1,
-    }
+// What a message is compared by.
+struct Key {
+    tag: u64,
+    number: u64,
+    payload: u64,
 }
 
-fn message_number(m: Message) -> u64
-    ensures { λ r. ⌜ r ≡ numberOf m ⌝ }
+fn key_of(m: Message) -> Key
+    ensures { λ r. ⌜ (r .tag ≡ tagOf m) × (r .number ≡ numberOf m) × (r .payload ≡ payloadOf m) ⌝ }
 {
     match m {
-        Message::Deliver(n, _) => n.0,
-        Message::Ack(n) => n.0,
-    }
-}
-
-fn payload_of(m: Message) -> u64
-    ensures { λ r. ⌜ r ≡ payloadOf m ⌝ }
-{
-    match m {
-        Message::Deliver(_, p) => p.0 as u64,
-        Message::Ack(_) => 0,
+        Message::Deliver(n, p) => Key {
+            tag: 0,
+            number: n.0,
+            payload: p.0 as u64,
+        },
+        Message::Ack(n) => Key {
+            tag: 1,
+            number: n.0,
+            payload: 0,
+        },
     }
 }
 
@@ -68,9 +65,11 @@ pub fn compare_flows(a: Envelope, b: Envelope) -> Order
 pub fn compare_messages(a: Message, b: Message) -> Order
     ensures { λ r. ⌜ r ≡ cmpMessage a b ⌝ }
 {
-    let t = compare_numbers(tag_of(a), tag_of(b));
-    let n = compare_numbers(message_number(a), message_number(b));
-    let p = compare_numbers(payload_of(a), payload_of(b));
+    let x = key_of(a);
+    let y = key_of(b);
+    let t = compare_numbers(x.tag, y.tag);
+    let n = compare_numbers(x.number, y.number);
+    let p = compare_numbers(x.payload, y.payload);
     and_then(t, and_then(n, p))
 }
 

@@ -1,4 +1,5 @@
--- The look-up in entries that ascend.
+-- The look-up in entries that ascend: all before the place stand before the envelope, and all after it stand after. So only the entry at the place can
+-- be equal to it.
 -- Assumes nothing.
 use Prim.Native.Nat.{ℕ, _≤_, _<_}
 use native.Mathlib.Omega.{arith}
@@ -12,23 +13,16 @@ use Rattle.lists.specs.Lists.{choose, chain, lead}
 use Rattle.lists.proofs.Sorted.{chain-sorted}
 use Rattle.types.specs.declared.Envelope.{Envelope}
 use Rattle.types.specs.declared.Entry.{Entry}
-use Rattle.types.specs.declared.Order.{Order}
-use Rattle.types.specs.declared.Order.the-variants.{Less, Equal, Greater}
 use Rattle.types.specs.Order.{cmpEnvelope, isLess, isEqual, same}
-use Rattle.types.proofs.Laws.{less-trans, not-up-to}
+use Rattle.types.proofs.Laws.{less-is, less-trans, not-up-to}
 use Rattle.net_entries.specs.declared.Found.the-variants.{At, Free}
 use Rattle.net_entries.specs.Search.{zeroEntry, stands, lookUp}
 use Rattle.net_entries.proofs.Tests.{any-yes, any-no, first-at, first-missing}
 
 -- ---- equal, before, after
-less-other : (o : Order) → isLess o ≡ true → isEqual o ≡ false
-less-other Less e = refl
-less-other Equal e = absurd (false≢true e)
-less-other Greater e = refl
-
 before-other : (e f : Envelope) → isLess (cmpEnvelope e f) ≡ true → same e f ≡ false
 unfolding same
-before-other e f h = less-other (cmpEnvelope e f) h
+before-other e f h = ap isEqual (less-is (cmpEnvelope e f) h)
 
 after-other : (e f : Envelope) → isLess (cmpEnvelope f e) ≡ true → same e f ≡ false
 after-other e f h = go (same e f) (isLess (cmpEnvelope e f)) (not-up-to e f ∙ h)
@@ -98,7 +92,9 @@ module _ (e : Envelope) where
         go (no h) b q = inr (is-missing l at refl s (λ k. absurd (h k)))
 
     pub told-at : (i : ℕ) → lookUp e l ≡ At i → There l i
-    told-at i q = ⊎-elim (λ t. let z : at ≡ i = cc (t .look) in rw z at t) (λ t. let z : _≡_ {A = ℕ} 0 1 = cc (t .look) in absurd (omega arith)) looked
+    told-at i q =
+        ⊎-elim (λ t. let z : at ≡ i = cc (t .look) in rw z at t) (λ t. let z : _≡_ {A = ℕ} 0 1 = cc (t .look) in absurd (omega arith)) looked
 
     pub told-free : (i : ℕ) → lookUp e l ≡ Free i → Missing l i
-    told-free i q = ⊎-elim (λ t. let z : _≡_ {A = ℕ} 0 1 = cc (t .look) in absurd (omega arith)) (λ t. let z : at ≡ i = cc (t .look) in rw z at t) looked
+    told-free i q =
+        ⊎-elim (λ t. let z : _≡_ {A = ℕ} 0 1 = cc (t .look) in absurd (omega arith)) (λ t. let z : at ≡ i = cc (t .look) in rw z at t) looked

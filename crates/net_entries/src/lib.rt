@@ -1,11 +1,13 @@
 // The first used places of an array of entries: what a walk passes over, the look-up, an entry put in and taken out at a place.
 use types::Entry;
 use types::Envelope;
+use types::MOST_ENTRIES;
 ghost use mathlib.Core.Path.{_≡_};
 ghost use mathlib.Core.Bool.{true, not};
 ghost use Prim.Native.Nat.{_≤_, _<_};
 ghost use lib.ListN.{take};
 ghost use Rattle.lists.specs.Lists.{chain, lead, grow, shrink};
+ghost use Rattle.types.specs.Capacities.{mostEntries};
 ghost use Rattle.types.specs.Order.{same};
 ghost use Rattle.net_entries.specs.Search.{stands, passesOf, lookUp};
 
@@ -34,8 +36,8 @@ fn passes(l: Look, e: Envelope, x: Entry) -> bool
 }
 
 // How many leading entries pass.
-pub fn scan(l: Look, entries: [Entry; 128], used: usize, e: Envelope) -> usize
-    requires { ⌜ used ≤ 128 ⌝ }
+pub fn scan(l: Look, entries: [Entry; MOST_ENTRIES], used: usize, e: Envelope) -> usize
+    requires { ⌜ used ≤ mostEntries ⌝ }
     ensures { λ r. ⌜ r ≡ lead (passesOf l e) (take used entries) ⌝ }
 {
     let mut i = 0;
@@ -50,8 +52,8 @@ pub fn scan(l: Look, entries: [Entry; 128], used: usize, e: Envelope) -> usize
 }
 
 // The entries ascend, so that a search by halves may take the place of the walk.
-pub fn look_up(entries: [Entry; 128], used: usize, e: Envelope) -> Found
-    requires { ⌜ (used ≤ 128) × (chain stands (take used entries) ≡ true) ⌝ }
+pub fn look_up(entries: [Entry; MOST_ENTRIES], used: usize, e: Envelope) -> Found
+    requires { ⌜ (used ≤ mostEntries) × (chain stands (take used entries) ≡ true) ⌝ }
     ensures { λ r. ⌜ r ≡ lookUp e (take used entries) ⌝ }
 {
     let at = scan(Look::Before, entries, used, e);
@@ -66,8 +68,8 @@ pub fn look_up(entries: [Entry; 128], used: usize, e: Envelope) -> Found
 }
 
 // The place of the equal entry, or the count, where the entries ascend.
-pub fn sorted_place(entries: [Entry; 128], used: usize, e: Envelope) -> usize
-    requires { ⌜ (used ≤ 128) × (chain stands (take used entries) ≡ true) ⌝ }
+pub fn sorted_place(entries: [Entry; MOST_ENTRIES], used: usize, e: Envelope) -> usize
+    requires { ⌜ (used ≤ mostEntries) × (chain stands (take used entries) ≡ true) ⌝ }
     ensures { λ r. ⌜ r ≡ lead (λ x. not (same e (x .envelope))) (take used entries) ⌝ }
 {
     let f = look_up(entries, used, e);
@@ -78,8 +80,13 @@ pub fn sorted_place(entries: [Entry; 128], used: usize, e: Envelope) -> usize
 }
 
 // The array with x at a place; what stood there and after it, up to the count, goes one place on.
-pub fn insert_at(entries: [Entry; 128], used: usize, at: usize, x: Entry) -> [Entry; 128]
-    requires { ⌜ (at ≤ used) × (used < 128) ⌝ }
+pub fn insert_at(
+    entries: [Entry; MOST_ENTRIES],
+    used: usize,
+    at: usize,
+    x: Entry,
+) -> [Entry; MOST_ENTRIES]
+    requires { ⌜ (at ≤ used) × (used < mostEntries) ⌝ }
     ensures { λ r. ⌜ r ≡ grow used at x entries ⌝ }
 {
     let mut es = entries;
@@ -96,8 +103,13 @@ pub fn insert_at(entries: [Entry; 128], used: usize, at: usize, x: Entry) -> [En
 }
 
 // The array without what stands at a place; what stood after it goes one place down, and the place that is freed holds z.
-pub fn remove_at(entries: [Entry; 128], used: usize, at: usize, z: Entry) -> [Entry; 128]
-    requires { ⌜ (at < used) × (used ≤ 128) ⌝ }
+pub fn remove_at(
+    entries: [Entry; MOST_ENTRIES],
+    used: usize,
+    at: usize,
+    z: Entry,
+) -> [Entry; MOST_ENTRIES]
+    requires { ⌜ (at < used) × (used ≤ mostEntries) ⌝ }
     ensures { λ r. ⌜ r ≡ shrink used at z entries ⌝ }
 {
     let mut es = entries;

@@ -6,6 +6,7 @@ use lib.ListN.{drop}
 use lib.Dec.{leb, eqb}
 use Rattle.lists.specs.Lists.{all}
 use Rattle.types.specs.declared.Entry.{Entry}
+use Rattle.types.specs.Capacities.{mostEntries}
 use Rattle.types.specs.Order.{same}
 use Rattle.rules.specs.Outcome.{base}
 use Rattle.rules.specs.WellFormed.{sourceKnown, countOk, netOk}
@@ -24,7 +25,7 @@ passOf (Count kind) x = countOk (base .room .copies) kind (x .count)
 
 -- The count fits, and the unused places are zero.
 unfoldable pub laidOut : Network → Bool
-laidOut n = leb (n .used) 128 && all zeroed (drop (n .used) (n .entries))
+laidOut n = leb (n .used) mostEntries && all zeroed (drop (n .used) (n .entries))
 
 -- With k actors.
 unfoldable pub netFormed : Network → ℕ → Bool

@@ -8,13 +8,15 @@ use types::Entry;
 use types::Envelope;
 use types::Kind;
 use types::LastMessage;
+use types::MOST_ENTRIES;
 ghost use mathlib.Core.Path.{_≡_};
 ghost use mathlib.Core.Bool.{true};
 ghost use Prim.Native.Nat.{_≤_};
 ghost use lib.ListN.{take};
 ghost use lib.Seq.{slice};
 ghost use Rattle.lists.specs.Lists.{all, chain};
-ghost use Rattle.rules.specs.Network.{isDuplicating};
+ghost use Rattle.types.specs.Capacities.{mostEntries};
+ghost use Rattle.rules.specs.Outcome.{base};
 ghost use Rattle.rules.specs.WellFormed.{sourceKnown, countOk, inOrder, lastOk};
 ghost use Rattle.net_network.specs.Views.{NetLaid};
 ghost use Rattle.net_formed.specs.Formed.{zeroed, passOf, netFormed};
@@ -42,9 +44,9 @@ fn source_known(e: Envelope, actors: usize) -> bool
     (e.src.0 as usize) < actors
 }
 
-// A count of 16 bits is never above 65,535.
+// MOST_COPIES is the most that a count holds, so that it is not tested.
 fn count_ok(kind: Kind, count: u16) -> bool
-    ensures { λ r. ⌜ r ≡ countOk 65535 kind count ⌝ }
+    ensures { λ r. ⌜ r ≡ countOk (base .room .copies) kind count ⌝ }
 {
     match kind {
         Kind::Ordered => count == 1,
@@ -64,8 +66,8 @@ fn passes(t: Test, x: Entry) -> bool
 }
 
 // The entries from a place up to another pass.
-fn all_pass(t: Test, entries: [Entry; 128], from: usize, to: usize) -> bool
-    requires { ⌜ to ≤ 128 ⌝ }
+fn all_pass(t: Test, entries: [Entry; MOST_ENTRIES], from: usize, to: usize) -> bool
+    requires { ⌜ to ≤ mostEntries ⌝ }
     ensures { λ r. ⌜ r ≡ all (passOf t) (slice from to entries) ⌝ }
 {
     let mut i = from;
@@ -89,8 +91,8 @@ fn stands_before(kind: Kind, x: Entry, y: Entry) -> bool
     }
 }
 
-fn in_order(kind: Kind, entries: [Entry; 128], used: usize) -> bool
-    requires { ⌜ used ≤ 128 ⌝ }
+fn in_order(kind: Kind, entries: [Entry; MOST_ENTRIES], used: usize) -> bool
+    requires { ⌜ used ≤ mostEntries ⌝ }
     ensures { λ r. ⌜ r ≡ chain (inOrder kind) (take used entries) ⌝ }
 {
     let mut i: usize = 1;
@@ -105,26 +107,18 @@ fn in_order(kind: Kind, entries: [Entry; 128], used: usize) -> bool
     true
 }
 
-fn is_duplicating(kind: Kind) -> bool
-    ensures { λ r. ⌜ r ≡ isDuplicating kind ⌝ }
-{
-    match kind {
-        Kind::Ordered => false,
-        Kind::UnorderedDuplicating => true,
-        Kind::UnorderedNonDuplicating => false,
-    }
-}
-
+// On kind 1 alone.
 fn last_ok(kind: Kind, last: LastMessage, actors: usize) -> bool
     ensures { λ r. ⌜ r ≡ lastOk actors kind last ⌝ }
 {
     let LastMessage::Delivered(e) = last else {
         return true;
     };
-    if !is_duplicating(kind) {
-        return false;
+    match kind {
+        Kind::Ordered => false,
+        Kind::UnorderedDuplicating => source_known(e, actors),
+        Kind::UnorderedNonDuplicating => false,
     }
-    source_known(e, actors)
 }
 
 pub fn net_ok(n: Network, actors: usize) -> bool
@@ -135,10 +129,10 @@ pub fn net_ok(n: Network, actors: usize) -> bool
     let entries = n.entries;
     let kind = n.kind;
     let last = n.last;
-    if 128 < used {
+    if MOST_ENTRIES < used {
         return false;
     }
-    if !all_pass(Test::Unused, entries, used, 128) {
+    if !all_pass(Test::Unused, entries, used, MOST_ENTRIES) {
         return false;
     }
     if !all_pass(Test::Source(actors), entries, 0, used) {

@@ -1,4 +1,4 @@
--- On kind 0, in canonical order, the fronts are the first entry and each whose flow is another than that of the entry before it.
+-- On kind 0, in canonical order, a flow stands together. So the fronts are the first entry and each whose flow is another than that of the entry before.
 -- Assumes nothing.
 use mathlib.Core.Path.{_≡_, refl, sym, ap, _∙_}
 use mathlib.Core.Logic.{⊎-elim}
@@ -12,7 +12,7 @@ use Rattle.types.specs.declared.Envelope.{Envelope}
 use Rattle.types.specs.declared.Entry.{Entry}
 use Rattle.types.specs.declared.Kind.the-variants.{Ordered}
 use Rattle.types.specs.Order.{cmpFlow, flowKey, lex, isLess, isEqual}
-use Rattle.types.proofs.Laws.{lex-flip, flow-trans}
+use Rattle.types.proofs.Laws.{less-is, lex-flip, flow-trans}
 use Rattle.rules.specs.Network.{fronts}
 use Rattle.rules.specs.WellFormed.{inOrder}
 
@@ -26,11 +26,6 @@ flow-less a b h k = go (lex (flowKey a) (flowKey b)) refl k
     go Less e q = refl
     go Equal e q = absurd (false≢true q)
     go Greater e q = absurd (false≢true (sym (ap (λ (o : Order). not (isLess o)) (lex-flip (flowKey a) (flowKey b) e)) ∙ h))
-
-less-other : (o : Order) → isLess o ≡ true → not (isEqual o) ≡ true
-less-other Less e = refl
-less-other Equal e = absurd (false≢true e)
-less-other Greater e = absurd (false≢true e)
 
 -- Not after, and then before.
 flow-up : (a b c : Envelope) → not (isLess (cmpFlow b a)) ≡ true → isLess (cmpFlow b c) ≡ true → isLess (cmpFlow a c) ≡ true
@@ -56,8 +51,10 @@ later p [] h f m = absurd (List·Memᴰ·not-nil m)
 later p (x ∷ l) h f m =
     let o = and-both (not (isLess (cmpFlow (x .envelope) (p .envelope)))) _ h in
     let up : f ∈ breaks x l → isLess (cmpFlow (p .envelope) f) ≡ true = λ n. flow-up (p .envelope) (x .envelope) f (o .0) (later x l (o .1) f n) in
+    let here : f ≡ x .envelope → changes (p .envelope) (x .envelope) ≡ true → isLess (cmpFlow (p .envelope) f) ≡ true
+    = λ e q. ap (λ (g : Envelope). isLess (cmpFlow (p .envelope) g)) e ∙ flow-less (p .envelope) (x .envelope) (o .0) q in
     ⊎-elim
-    (λ t. ⊎-elim (λ e. ap (λ (g : Envelope). isLess (cmpFlow (p .envelope) g)) e ∙ flow-less (p .envelope) (x .envelope) (o .0) (t .0)) up (List·Memᴰ·cases-cons (t .1)))
+    (λ t. ⊎-elim (λ e. here e (t .0)) up (List·Memᴰ·cases-cons (t .1)))
     (λ t. up (t .1))
     (in-choose _ _ _ m)
 
@@ -66,11 +63,14 @@ unfolding keep choose
 keep-all p [] f = refl
 keep-all {A = A} p (x ∷ l) f = rw (f x (List·Memᴰ·head refl)) (ap (λ (m : List A). x ∷ m) (keep-all p l (λ y m. f y (List·Memᴰ·tail m))))
 
-pub fronts-are : (p : Entry) (l : List Entry) → chain (inOrder Ordered) (p ∷ l) ≡ true → fronts (map (λ (x : Entry). x .envelope) (p ∷ l)) ≡ p .envelope ∷ breaks p l
+pub fronts-are
+    : (p : Entry) (l : List Entry) → chain (inOrder Ordered) (p ∷ l) ≡ true
+    → fronts (map (λ (x : Entry). x .envelope) (p ∷ l)) ≡ p .envelope ∷ breaks p l
 unfolding fronts keep chain inOrder breaks
 fronts-are p [] h = refl
 fronts-are p (x ∷ l) h =
     let o = and-both (not (isLess (cmpFlow (x .envelope) (p .envelope)))) _ h in
-    let rest : keep (changes (p .envelope)) (breaks x l) ≡ breaks x l
-    = keep-all (changes (p .envelope)) (breaks x l) (λ f m. less-other (cmpFlow (p .envelope) f) (flow-up (p .envelope) (x .envelope) f (o .0) (later x l (o .1) f m))) in
+    let other : (f : Envelope) → f ∈ breaks x l → changes (p .envelope) f ≡ true
+    = λ f m. ap (λ (t : Order). not (isEqual t)) (less-is (cmpFlow (p .envelope) f) (flow-up (p .envelope) (x .envelope) f (o .0) (later x l (o .1) f m))) in
+    let rest : keep (changes (p .envelope)) (breaks x l) ≡ breaks x l = keep-all (changes (p .envelope)) (breaks x l) other in
     ap (λ (r : List Envelope). p .envelope ∷ keep (changes (p .envelope)) r) (fronts-are x l (o .1)) ∙ rw rest

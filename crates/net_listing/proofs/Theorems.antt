@@ -48,7 +48,8 @@ shown-runs k all [] at e = refl
 shown-runs k all (x ∷ l) at e =
     let z : at ≡ at + 0 = omega arith in
     let b : at + 1 - 1 ≡ at = omega arith in
-    let g : getD all at zeroEntry ≡ x = ap (λ (j : ℕ). getD all j zeroEntry) z ∙ sym (getD-drop at all 0 zeroEntry) ∙ ap (λ (r : List Entry). getD r 0 zeroEntry) e in
+    let g : getD all at zeroEntry ≡ x
+    = ap (λ (j : ℕ). getD all j zeroEntry) z ∙ sym (getD-drop at all 0 zeroEntry) ∙ ap (λ (r : List Entry). getD r 0 zeroEntry) e in
     let r : shown k all (length l) (at + 1) ≡ runs k (at + 1) x l
     = shown-runs k all l (at + 1) (drop-more all l at x e) ∙ ap (λ (p : Entry). runs k (at + 1) p l) (ap (λ (j : ℕ). getD all j zeroEntry) b ∙ g) in
     rw (g, r)
@@ -68,7 +69,8 @@ runs-breaks at p (x ∷ l) h =
 shown-is : (k : Kind) (l : List Entry) → chain (inOrder k) l ≡ true → shown k l (length l) 0 ≡ deliverable k (envelopes l)
 unfolding deliverable opens runs fronts choose
 shown-is Ordered [] h = shown-runs Ordered [] [] 0 refl
-shown-is Ordered (x ∷ l) h = shown-runs Ordered (x ∷ l) (x ∷ l) 0 refl ∙ ap (λ (r : List Envelope). x .envelope ∷ r) (runs-breaks 1 x l (omega arith)) ∙ sym (fronts-are x l h)
+shown-is Ordered (x ∷ l) h =
+    shown-runs Ordered (x ∷ l) (x ∷ l) 0 refl ∙ ap (λ (r : List Envelope). x .envelope ∷ r) (runs-breaks 1 x l (omega arith)) ∙ sym (fronts-are x l h)
 shown-is UnorderedDuplicating l h = shown-runs UnorderedDuplicating l l 0 refl ∙ runs-all UnorderedDuplicating (λ i p x. refl) 0 _ l
 shown-is UnorderedNonDuplicating l h = shown-runs UnorderedNonDuplicating l l 0 refl ∙ runs-all UnorderedNonDuplicating (λ i p x. refl) 0 _ l
 

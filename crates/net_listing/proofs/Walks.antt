@@ -1,4 +1,4 @@
--- From a place on, each listing's walk gives what is left of its list.
+-- From a place on, each listing's walk gives what is left of its list: a step tells the first of it, and leaves the place of the rest.
 -- Assumes nothing.
 use Prim.Native.Nat.{ℕ, zero, suc, _+_, _-_, _≤_, _<_}
 use native.Mathlib.Omega.{arith}
@@ -60,12 +60,14 @@ module _ (n : Network) where
   unfolding listing listedFrom choose
   entry-walk x l at e f zero k h =
       let s : listedNext n (cur at k) ≡ listedNext n (cur (at + 1) (k - x .count))
-      = next-is at k (x ∷ l) e ∙ rw (le-ltb k (x .count) (omega arith)) (sym (next-is (at + 1) (k - x .count) l (drop-more (entryList n) l at x e))) in
+      = next-is at k (x ∷ l) e
+      ∙ rw (le-ltb k (x .count) (omega arith)) (sym (next-is (at + 1) (k - x .count) l (drop-more (entryList n) l at x e))) in
       rw (drop-past (x .count) k (x .envelope) (listing l) (omega arith))
       (walk-same (λ z. s ∙ z) (λ a b z. s ∙ z) (f (k - x .count)))
   entry-walk x l at e f (suc m) k h =
       rw (drop-copy (x .count) k (x .envelope) (listing l) (omega arith))
-      (on {d = cur at (k + 1)} {a = x .envelope} (next-is at k (x ∷ l) e ∙ rw (lt-ltb k (x .count) (omega arith))) (entry-walk x l at e f m (k + 1) (omega arith)))
+      (on {d = cur at (k + 1)} {a = x .envelope} (next-is at k (x ∷ l) e ∙ rw (lt-ltb k (x .count) (omega arith)))
+      (entry-walk x l at e f m (k + 1) (omega arith)))
 
   pub listed-left : (l : List Entry) (at k : ℕ) → drop at (entryList n) ≡ l → Listed n (cur at k) (drop k (listing l))
   unfolding listing listedFrom

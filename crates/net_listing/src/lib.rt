@@ -4,9 +4,11 @@ use net_network::Network;
 use types::Entry;
 use types::Envelope;
 use types::Kind;
+use types::MOST_ENTRIES;
 ghost use mathlib.Core.Path.{_≡_};
 ghost use Prim.Native.Nat.{_-_, _≤_, min};
 ghost use lib.ListN.{take, drop};
+ghost use Rattle.types.specs.Capacities.{mostEntries};
 ghost use Rattle.net_listing.specs.Listing.{start, listedFrom, listedNext, opens, offeredFrom, offeredNext};
 
 // A place in the full listing: an entry, and how many envelopes from that entry on were listed.
@@ -35,16 +37,16 @@ pub fn first_place() -> Cursor
 
 // How many places of the array can be in use, whatever the count says.
 fn in_use(used: usize) -> usize
-    ensures { λ r. ⌜ r ≡ min used 128 ⌝ }
+    ensures { λ r. ⌜ r ≡ min used mostEntries ⌝ }
 {
-    if used < 128 {
+    if used < MOST_ENTRIES {
         return used;
     }
-    128
+    MOST_ENTRIES
 }
 
-fn listed_from(entries: [Entry; 128], used: usize, at: usize, copy: u16) -> Step
-    requires { ⌜ used ≤ 128 ⌝ }
+fn listed_from(entries: [Entry; MOST_ENTRIES], used: usize, at: usize, copy: u16) -> Step
+    requires { ⌜ used ≤ mostEntries ⌝ }
     ensures { λ r. ⌜ r ≡ listedFrom at copy (drop at (take used entries)) ⌝ }
 {
     let mut i = at;
@@ -95,8 +97,8 @@ fn is_offered(kind: Kind, i: usize, p: Entry, x: Entry) -> bool
     }
 }
 
-fn offered_from(kind: Kind, entries: [Entry; 128], used: usize, at: usize) -> Offer
-    requires { ⌜ used ≤ 128 ⌝ }
+fn offered_from(kind: Kind, entries: [Entry; MOST_ENTRIES], used: usize, at: usize) -> Offer
+    requires { ⌜ used ≤ mostEntries ⌝ }
     ensures { λ r. ⌜ r ≡ offeredFrom kind (take used entries) (used - at) at ⌝ }
 {
     let mut i = at;

@@ -1,12 +1,11 @@
--- Two lists of bytes compared place by place, and one written over the front of another: what a turn of each loop does.
+-- Two lists of bytes are the same where they agree at each place and end together. So one place decides, or leaves the question to the rest.
 -- Assumes nothing.
-use Prim.Native.Nat.{ℕ, zero, suc, _+_, _≤_, _<_}
-use native.Mathlib.Nat.{not-suc-le-zero, le-of-suc-le-suc}
+use Prim.Native.Nat.{ℕ, suc, _+_, _≤_, _<_}
 use native.Mathlib.Numerals.{add-one}
 use mathlib.Core.Path.{_≡_, refl, ap}
 use mathlib.Core.Bool.{true, false, _&&_, and-false}
-use mathlib.Core.List.{List, [], _∷_, _++_}
-use lib.ListN.{length, take, drop, getD, set, drop-of-length-le}
+use mathlib.Core.List.{List, [], _∷_}
+use lib.ListN.{length, drop, getD, drop-of-length-le}
 use lib.Seq.{drop-cons}
 use lib.Dec.{eqb}
 use borrow.Author.Tests.{eq-eqb, ne-eqb}
@@ -34,13 +33,3 @@ module _ (a b : List ℕ) (i : ℕ) (p : i < length a) (q : i < length b) where
 pub same-end : (a b : List ℕ) (i : ℕ) → length a ≤ i → length b ≤ i → sameBytes (drop i a) (drop i b) ≡ true
 unfolding sameBytes
 same-end a b i p q = rw (drop-of-length-le a p, drop-of-length-le b q)
-
--- The first i of a list over the front of another; then one more.
-pub over-turn : {A : Type 0} (s d : List A) (i : ℕ) (z : A) → i < length s → i < length d → set (take i s ++ drop i d) i (getD s i z) ≡ take (i + 1) s ++ drop (i + 1) d
-over-turn {A = A} s d i z h k = rw (add-one i) (go s d i h k)
-  where
-    go : (s d : List A) (i : ℕ) → i < length s → i < length d → set (take i s ++ drop i d) i (getD s i z) ≡ take (suc i) s ++ drop (suc i) d
-    go [] d i h k = absurd (not-suc-le-zero h)
-    go (x ∷ s) [] i h k = absurd (not-suc-le-zero k)
-    go (x ∷ s) (y ∷ d) zero h k = refl
-    go (x ∷ s) (y ∷ d) (suc i) h k = ap (λ (l : List A). x ∷ l) (go s d i (le-of-suc-le-suc h) (le-of-suc-le-suc k))

@@ -47,7 +47,9 @@ numbered name = go (sameBytes name (nameOf Ordered)) (sameBytes name (nameOf Uno
 pub refused-number : (name : List ℕ) (n : ℕ) → kindNamed name ≡ refused n → n ≡ 12
 refused-number name n e = sym (rw e at (numbered name .0))
 
-pub named-all : (name : List ℕ) {r : Named} → r ≡ namedOf (kindNamed name) → (r ≡ namedOf (kindNamed name)) × ((namedNumber r ≡ outcomeNumber (kindNamed name)) × (namedKinds r ≡ outcomeKinds (kindNamed name)))
+pub named-all
+    : (name : List ℕ) {r : Named} → r ≡ namedOf (kindNamed name)
+    → (r ≡ namedOf (kindNamed name)) × ((namedNumber r ≡ outcomeNumber (kindNamed name)) × (namedKinds r ≡ outcomeKinds (kindNamed name)))
 named-all name e = (e, (ap namedNumber e ∙ numbered name .0, ap namedKinds e ∙ numbered name .1))
 
 -- What is written into a buffer that it fits is the name whole, and is read back as the kind.

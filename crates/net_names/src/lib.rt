@@ -3,7 +3,8 @@ use types::Kind;
 ghost use mathlib.Core.Path.{_≡_};
 ghost use lib.ListN.{drop};
 ghost use Rattle.rules.specs.Network.{nameOf, names, sameBytes, kindNamed};
-ghost use Rattle.net_names.specs.Names.{namedOf, outcomeNumber, outcomeKinds, namedNumber, namedKinds, writtenAs, leftOn, listedOf, firstListed, firstLeft};
+ghost use Rattle.net_names.specs.Names.{namedOf, outcomeNumber, outcomeKinds, namedNumber, namedKinds};
+ghost use Rattle.net_names.specs.Names.{writtenAs, leftOn, listedOf, firstListed, firstLeft};
 
 const ORDERED: [u8; 7] = *b"ordered";
 

@@ -1,10 +1,13 @@
--- The rules of the three kinds, by the places that the code finds.
+-- What a kind's rule does is done at one place, and the code finds that place: the end of the flow, the equal entry, or where one would stand.
 -- Assumes nothing.
 use Prim.Native.Nat.{ℕ, _≤_, _<_}
 use native.Mathlib.Omega.{arith}
 use native.Mathlib.Decide.{decLe, decLt}
 use mathlib.Core.Path.{_≡_, refl, sym, ap, _∙_}
+use mathlib.Core.Logic.{_⊎_, ⊎-elim}
 use mathlib.Core.Bool.{Bool, true, false, not, true≢false}
+use denote.Enum.Declared.{tagOf}
+use Rattle.types.proofs.Kind.{the-type}
 use mathlib.Core.List.{List}
 use lib.ListN.{length, getD, set}
 use borrow.Author.Tests.{le-leb, lt-leb}
@@ -27,16 +30,22 @@ use Rattle.net_entries.proofs.Tests.{any-yes, any-no}
 use Rattle.net_entries.proofs.Lookup.{There, Missing}
 use Rattle.net_network.specs.declared.Network.{Network}
 use Rattle.net_network.specs.declared.Sent.{Sent}
-use Rattle.net_network.specs.Views.{zeroEntry, entryList, netView, networkOf, NetLaid, sentOf}
+use Rattle.net_network.specs.Views.{zeroEntry, entryList, netView, networkOf, NetLaid, back, sentOf}
 use Rattle.net_network.specs.Parts.{entered, fitting, takenAt, takenOr, absentOf}
 use Rattle.net_network.proofs.Changes.{used-is, held}
 
 -- ---- the kinds
-pub set-sorted : (k : Kind) → k ≡ UnorderedDuplicating → k ≡ Ordered → ⊥
-set-sorted k h o = let z : _≡_ {A = ℕ} 0 1 = cc in omega arith
+-- What an arm for the rest of the kinds knows is their numbers.
+pub not-ordered : (k : Kind) → (tagOf the-type k ≡ 1) ⊎ (tagOf the-type k ≡ 2) → k ≡ Ordered → ⊥
+not-ordered Ordered h o = ⊎-elim (λ z. omega arith) (λ z. omega arith) h
+not-ordered UnorderedDuplicating h o = let z : _≡_ {A = ℕ} 0 1 = cc in omega arith
+not-ordered UnorderedNonDuplicating h o = let z : _≡_ {A = ℕ} 0 1 = cc in omega arith
 
-pub counted-sorted : (k : Kind) → k ≡ UnorderedNonDuplicating → k ≡ Ordered → ⊥
-counted-sorted k h o = let z : _≡_ {A = ℕ} 0 1 = cc in omega arith
+pub not-duplicating : (k : Kind) → (tagOf the-type k ≡ 0) ⊎ (tagOf the-type k ≡ 2) → isDuplicating k ≡ false
+unfolding isDuplicating
+not-duplicating Ordered h = refl
+not-duplicating UnorderedDuplicating h = absurd (⊎-elim (λ z. omega arith) (λ z. omega arith) h)
+not-duplicating UnorderedNonDuplicating h = refl
 
 -- On kinds 1 and 2 the entries ascend.
 pub ascend : (k : Kind) (l : List Entry) → (k ≡ Ordered → ⊥) → chain (inOrder k) l ≡ true → chain stands l ≡ true
@@ -46,18 +55,21 @@ ascend UnorderedDuplicating l n h = h
 ascend UnorderedNonDuplicating l n h = h
 
 -- ---- a send
-pub sent-by : (n : Network) (e : Envelope) (l : List Entry) → put (n .kind) e (entryList n) ≡ l → (r : Sent) → r ≡ sentOf n (fitting n l) → r ≡ sentOf n (send (base .room) e (netView n))
+pub sent-by
+    : (n : Network) (e : Envelope) (l : List Entry) → put (n .kind) e (entryList n) ≡ l
+    → (r : Sent) → r ≡ sentOf n (fitting n l) → r ≡ sentOf n (send (base .room) e (netView n))
 unfolding send sending
 sent-by n e l h r q = q ∙ ap (λ (m : List Entry). sentOf n (fitting n m)) (sym h)
 
-pub put-flow : (k : Kind) (e : Envelope) (l : List Entry) (at : ℕ) → k ≡ Ordered → at ≡ lead (λ x. not (isLess (cmpFlow e (x .envelope)))) l → put k e l ≡ ins at (single e) l
-put-flow k e l at h p = rw p (ap (λ (j : Kind). put j e l) h ∙ put-ordered e zeroEntry l)
+module _ (k : Kind) (e : Envelope) (l : List Entry) (at : ℕ) where
+  pub put-flow : k ≡ Ordered → at ≡ lead (λ x. not (isLess (cmpFlow e (x .envelope)))) l → put k e l ≡ ins at (single e) l
+  put-flow h p = rw p (ap (λ (j : Kind). put j e l) h ∙ put-ordered e zeroEntry l)
 
-pub put-missing : (k : Kind) (e : Envelope) (l : List Entry) (at : ℕ) → (k ≡ Ordered → ⊥) → Missing e l at → put k e l ≡ ins at (single e) l
-put-missing k e l at h m = rw (m .place) (put-new e zeroEntry l k h (rw (m .place) at (m .other)))
+  pub put-missing : (k ≡ Ordered → ⊥) → Missing e l at → put k e l ≡ ins at (single e) l
+  put-missing h m = rw (m .place) (put-new e zeroEntry l k h (rw (m .place) at (m .other)))
 
-pub put-there : (k : Kind) (e : Envelope) (l : List Entry) (at : ℕ) → (k ≡ Ordered → ⊥) → There e l at → put k e l ≡ set l at (again k (getD l at zeroEntry))
-put-there k e l at h m = rw (m .place) (put-again e zeroEntry l k h (rw (m .place) at (m .within)) (rw (m .place) at (m .found)))
+  pub put-there : (k ≡ Ordered → ⊥) → There e l at → put k e l ≡ set l at (again k (getD l at zeroEntry))
+  put-there h m = rw (m .place) (put-again e zeroEntry l k h (rw (m .place) at (m .within)) (rw (m .place) at (m .found)))
 
 -- ---- a removal
 module _ (e : Envelope) (l : List Entry) where
@@ -70,18 +82,23 @@ module _ (e : Envelope) (l : List Entry) where
     where
       go : Dec (getD l first zeroEntry .count ≤ 1) → takenAt first l ≡ remove e l
       go (yes k) = rw (le-leb (getD l first zeroEntry .count) 1 k) (sym (remove-last e zeroEntry l h k))
-      go (no k) = let z : 1 < getD l first zeroEntry .count = omega arith in rw (lt-leb (getD l first zeroEntry .count) 1 z) (sym (remove-one e zeroEntry l h z))
+      go (no k) =
+          let z : 1 < getD l first zeroEntry .count = omega arith in
+          rw (lt-leb (getD l first zeroEntry .count) 1 z) (sym (remove-one e zeroEntry l h z))
 
 module _ (n : Network) (laid : NetLaid n) (e : Envelope) where
-  pub taken : (absent : Answer) (at : ℕ) → at ≡ first e (entryList n) → at < n .used → (r : Sent) → r ≡ sentOf n (done (entered n (takenAt at (entryList n)))) → r ≡ takenOr absent e n
+  pub taken
+      : (absent : Answer) (at : ℕ) → at ≡ first e (entryList n) → at < n .used
+      → (r : Sent) → r ≡ sentOf n (done (entered n (takenAt at (entryList n)))) → r ≡ takenOr absent e n
   unfolding present dropping choose
   taken absent at p h r q =
       let v = used-is n laid in
       let w : first e (entryList n) < length (entryList n) = omega arith in
       rw (any-yes (λ x. same e (x .envelope)) (entryList n) w)
-      (q ∙ ap (λ (l : List Entry). sentOf n (done (entered n l))) (ap (λ (k : ℕ). takenAt k (entryList n)) p ∙ taken-is e (entryList n) w))
+      (q
+      ∙ ap (λ (l : List Entry). sentOf n (done (entered n l))) (ap (λ (k : ℕ). takenAt k (entryList n)) p ∙ taken-is e (entryList n) w))
 
-  pub left : (absent : Answer) (at : ℕ) → at ≡ first e (entryList n) → n .used ≤ at → _≡_ {A = Sent} (record { answer = absent; network = n }) (takenOr absent e n)
+  pub left : (absent : Answer) (at : ℕ) → at ≡ first e (entryList n) → n .used ≤ at → back absent n ≡ takenOr absent e n
   unfolding present choose
   left absent at p h =
       let v = used-is n laid in
@@ -98,25 +115,37 @@ module _ (n : Network) (laid : NetLaid n) (e : Envelope) where
       go (no k) = rw (remove-absent e zeroEntry (entryList n) (omega arith)) (held n laid)
 
   -- ---- Deliver and Drop
-  by-presence : (b : Bool) (m : Net) → choose b (sentOf n (done m)) (record { answer = Absent; network = n }) ≡ sentOf n (guard b 3 (done m))
+  by-presence : (b : Bool) (m : Net) → choose b (sentOf n (done m)) (back Absent n) ≡ sentOf n (guard b 3 (done m))
   unfolding choose guard answerOf
   by-presence true m = refl
   by-presence false m = refl
 
-  pub delivered-one : isDuplicating (n .kind) ≡ false → (r : Sent) → r ≡ takenOr Absent e n → r ≡ sentOf n (onDeliver e (netView n))
-  unfolding onDeliver delivering choose
-  delivered-one h r q = q ∙ rw h (by-presence (present e (netView n)) (dropping e (netView n)))
+  dropped-one : isDuplicating (n .kind) ≡ false → (r : Sent) → r ≡ takenOr Absent e n → r ≡ sentOf n (onDrop e (netView n))
+  unfolding onDrop
+  dropped-one h r q = q ∙ rw h (by-presence (present e (netView n)) (dropping e (netView n)))
 
-  pub delivered-copy : isDuplicating (n .kind) ≡ true → _≡_ {A = Sent} (record { answer = Done; network = record { kind = n .kind; entries = n .entries; used = n .used; last = Delivered e } }) (sentOf n (onDeliver e (netView n)))
+  -- on kinds 0 and 2 a Deliver does what a Drop does
+  pub delivered-one : isDuplicating (n .kind) ≡ false → (r : Sent) → r ≡ takenOr Absent e n → r ≡ sentOf n (onDeliver e (netView n))
+  unfolding onDeliver onDrop delivering choose
+  delivered-one h r q = dropped-one h r q ∙ rw h
+
+  pub delivered-copy
+      : isDuplicating (n .kind) ≡ true
+      → back Done (record { kind = n .kind; entries = n .entries; used = n .used; last = Delivered e }) ≡ sentOf n (onDeliver e (netView n))
   unfolding onDeliver delivering choose guard answerOf
-  delivered-copy h = let v = used-is n laid in rw h (λ i. record { answer = Done; network = record { kind = n .kind; entries = laid .rest i; used = sym v i; last = Delivered e } })
+  delivered-copy h =
+      let v = used-is n laid in
+      rw h (λ i. back Done (record { kind = n .kind; entries = laid .rest i; used = sym v i; last = Delivered e }))
 
   pub dropped : (k : Kind) → n .kind ≡ k → (r : Sent) → r ≡ takenOr (absentOf k) e n → r ≡ sentOf n (onDrop e (netView n))
   unfolding onDrop isDuplicating guard choose answerOf
-  dropped Ordered h r q = let d : isDuplicating (n .kind) ≡ false = ap isDuplicating h in q ∙ rw d (by-presence (present e (netView n)) (dropping e (netView n)))
+  dropped Ordered h r q = dropped-one (ap isDuplicating h) r q
   dropped UnorderedDuplicating h r q = let d : isDuplicating (n .kind) ≡ true = ap isDuplicating h in q ∙ rw d (go (present e (netView n)) refl)
     where
-      go : (b : Bool) → present e (netView n) ≡ b → choose b (sentOf n (done (dropping e (netView n)))) (record { answer = Done; network = n }) ≡ sentOf n (done (dropping e (netView n)))
+      m : Net
+      m = dropping e (netView n)
+
+      go : (b : Bool) → present e (netView n) ≡ b → choose b (sentOf n (done m)) (back Done n) ≡ sentOf n (done m)
       go true q = refl
-      go false q = λ i. record { answer = Done; network = dropped-none q i }
-  dropped UnorderedNonDuplicating h r q = let d : isDuplicating (n .kind) ≡ false = ap isDuplicating h in q ∙ rw d (by-presence (present e (netView n)) (dropping e (netView n)))
+      go false q = ap (back Done) (dropped-none q)
+  dropped UnorderedNonDuplicating h r q = dropped-one (ap isDuplicating h) r q

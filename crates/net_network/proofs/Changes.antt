@@ -1,8 +1,8 @@
--- A network that is laid out: how a change of its array is a change of the list of its entries.
+-- A network that is laid out: its array is the list of its entries with zeros behind, so a change of the array is that change of the list.
 -- Assumes nothing.
 use Prim.Native.Nat.{ℕ, suc, _+_, _-_, _≤_, _<_}
 use native.Mathlib.Omega.{arith}
-use mathlib.Core.Path.{_≡_, refl, sym, ap, _∙_}
+use mathlib.Core.Path.{_≡_, sym, ap, _∙_}
 use mathlib.Core.Bool.{true, false}
 use mathlib.Core.List.{List}
 use lib.ListN.{length, getD, set, length-set}
@@ -14,15 +14,15 @@ use Rattle.types.specs.declared.Envelope.{Envelope}
 use Rattle.types.specs.declared.Entry.{Entry}
 use Rattle.types.specs.declared.Kind.{Kind}
 use Rattle.types.specs.declared.Kind.the-variants.{Ordered, UnorderedDuplicating, UnorderedNonDuplicating}
-use Rattle.answers.specs.declared.Answer.the-variants.{Done, NetworkFull}
+use Rattle.types.specs.Capacities.{mostEntries}
+use Rattle.answers.specs.declared.Answer.the-variants.{NetworkFull}
 use Rattle.answers.specs.Answers.{answerOf}
-use Rattle.rules.specs.Outcome.{Outcome, done, refused, guard}
-use Rattle.rules.specs.Network.{Net, single, again, lowered, fits}
+use Rattle.rules.specs.Outcome.{done, guard, base}
+use Rattle.rules.specs.Network.{single, again, lowered, fits}
 use Rattle.net_entries.proofs.Tests.{all-ins, all-set}
 use Rattle.net_network.specs.declared.Network.{Network}
-use Rattle.net_network.specs.declared.Sent.{Sent}
-use Rattle.net_network.specs.Views.{zeroEntry, entryList, netView, networkOf, NetLaid, NetReady, sentOf}
-use Rattle.net_network.specs.Parts.{copiesOf, entered, fitting, takenAt}
+use Rattle.net_network.specs.Views.{zeroEntry, entryList, netView, networkOf, NetLaid, countFits, NetReady, back, sentOf}
+use Rattle.net_network.specs.Parts.{copiesOf, changed, entered, fitting, takenAt}
 
 -- A send of an equal entry, as the code counts it.
 pub again-is : (k : Kind) (x : Entry) → again k x ≡ record { envelope = x .envelope; count = x .count + copiesOf k }
@@ -37,103 +37,115 @@ copies-few UnorderedDuplicating = omega arith
 copies-few UnorderedNonDuplicating = omega arith
 
 -- ---- what fits
-fitting-done : (n : Network) (l : List Entry) → length l ≤ 128 → all (λ x. leb (x .count) 65535) l ≡ true → fitting n l ≡ done (entered n l)
-unfolding fits guard
-fitting-done n l h k = rw (le-leb (length l) 128 h, k)
+module _ (n : Network) (l : List Entry) where
+  refuses : fits (base .room) (entered n l) ≡ false → back NetworkFull n ≡ sentOf n (fitting n l)
+  unfolding guard answerOf
+  refuses h = rw h
 
-fitting-long : (n : Network) (l : List Entry) → 128 < length l → fitting n l ≡ refused 8
-unfolding fits guard
-fitting-long n l h = rw (lt-leb (length l) 128 h)
-
-fitting-many : (n : Network) (l : List Entry) → length l ≤ 128 → all (λ x. leb (x .count) 65535) l ≡ false → fitting n l ≡ refused 8
-unfolding fits guard
-fitting-many n l h k = rw (le-leb (length l) 128 h, k)
-
--- The answer where it does not fit.
-full : (n : Network) (o : Outcome Net) → o ≡ refused 8 → _≡_ {A = Sent} (record { answer = NetworkFull; network = n }) (sentOf n o)
-unfolding answerOf
-full n o h = ap (sentOf n) (sym h)
+  admits : fits (base .room) (entered n l) ≡ true → sentOf n (done (entered n l)) ≡ sentOf n (fitting n l)
+  unfolding guard
+  admits h = rw h
 
 module _ (n : Network) (laid : NetLaid n) where
   pub used-is : length (entryList n) ≡ n .used
-  used-is = laid-length 128 zeroEntry (n .entries) (n .used) (laid .fit) (laid .rest)
+  used-is = laid-length mostEntries zeroEntry (n .entries) (n .used) (laid .fit) (laid .rest)
 
   pub got : (at : ℕ) → getD (n .entries) at zeroEntry ≡ getD (entryList n) at zeroEntry
-  got = laid-get 128 zeroEntry (n .entries) (n .used) (laid .fit) (laid .rest)
+  got = laid-get mostEntries zeroEntry (n .entries) (n .used) (laid .fit) (laid .rest)
 
   pub held : n ≡ networkOf (netView n)
   held = let v = used-is in λ i. record { kind = n .kind; entries = laid .rest i; used = sym v i; last = n .last }
 
-  -- The answer where it is done: es and u are the array and the count that the code has.
-  pub with-list : (es : List Entry) (u : ℕ) (l : List Entry) → es ≡ pad 128 zeroEntry l → u ≡ length l → (o : Outcome Net) → o ≡ done (entered n l)
-      → _≡_ {A = Sent} (record { answer = Done; network = record { kind = n .kind; entries = es; used = u; last = n .last } }) (sentOf n o)
+  -- es and u are the array and the count that the code has.
+  with-list : (es : List Entry) (u : ℕ) (l : List Entry) → es ≡ pad mostEntries zeroEntry l → u ≡ length l → changed n es u ≡ sentOf n (done (entered n l))
   unfolding answerOf
-  with-list es u l p q o r = (λ i. record { answer = Done; network = record { kind = n .kind; entries = p i; used = q i; last = n .last } }) ∙ ap (sentOf n) (sym r)
+  with-list es u l p q = λ i. changed n (p i) (q i)
 
   -- ---- one copy less
-  pub take-last : (at : ℕ) → at < n .used → getD (n .entries) at zeroEntry .count ≤ 1 → (es : List Entry) → es ≡ shrink (n .used) at zeroEntry (n .entries)
-      → _≡_ {A = Sent} (record { answer = Done; network = record { kind = n .kind; entries = es; used = n .used - 1; last = n .last } }) (sentOf n (done (entered n (takenAt at (entryList n)))))
+  pub take-last
+      : (at : ℕ) → at < n .used → getD (n .entries) at zeroEntry .count ≤ 1 → (es : List Entry) → es ≡ shrink (n .used) at zeroEntry (n .entries)
+      → changed n es (n .used - 1) ≡ sentOf n (done (entered n (takenAt at (entryList n))))
   unfolding takenAt choose
   take-last at h k es p =
       let v = used-is in
       rw (le-leb _ 1 (rw (got at) at k))
-      (with-list es (n .used - 1) (del at (entryList n)) (p ∙ laid-shrink 128 zeroEntry (n .entries) (n .used) (laid .fit) (laid .rest) at h)
-      (omega (arith, length-del at (entryList n) (omega arith))) _ refl)
+      (with-list es (n .used - 1) (del at (entryList n))
+      (p ∙ laid-shrink mostEntries zeroEntry (n .entries) (n .used) (laid .fit) (laid .rest) at h)
+      (omega (arith, length-del at (entryList n) (omega arith))))
 
   -- an entry is replaced by one that is made of it
-  replaced : (f : Entry → Entry) (at : ℕ) → at < n .used → (o : Outcome Net) → o ≡ done (entered n (set (entryList n) at (f (getD (entryList n) at zeroEntry))))
-      → _≡_ {A = Sent} (record { answer = Done; network = record { kind = n .kind; entries = set (n .entries) at (f (getD (n .entries) at zeroEntry)); used = n .used; last = n .last } }) (sentOf n o)
-  replaced f at h o r =
+  replaced
+      : (f : Entry → Entry) (at : ℕ) → at < n .used
+      → changed n (set (n .entries) at (f (getD (n .entries) at zeroEntry))) (n .used)
+      ≡ sentOf n (done (entered n (set (entryList n) at (f (getD (entryList n) at zeroEntry)))))
+  replaced f at h =
       let v = used-is in
       let x = f (getD (entryList n) at zeroEntry) in
       with-list _ (n .used) (set (entryList n) at x)
-      (ap (λ (y : Entry). set (n .entries) at (f y)) (got at) ∙ ap (λ (es : List Entry). set es at x) (laid .rest) ∙ set-pad 128 (entryList n) at x zeroEntry (omega arith))
-      (sym (length-set (entryList n) at x ∙ v)) o r
+      (ap (λ (y : Entry). set (n .entries) at (f y)) (got at)
+      ∙ ap (λ (es : List Entry). set es at x) (laid .rest)
+      ∙ set-pad mostEntries (entryList n) at x zeroEntry (omega arith))
+      (sym (length-set (entryList n) at x ∙ v))
 
-  pub take-more : (at : ℕ) → at < n .used → 1 < getD (n .entries) at zeroEntry .count
-      → _≡_ {A = Sent} (record { answer = Done; network = record { kind = n .kind; entries = set (n .entries) at (record { envelope = getD (n .entries) at zeroEntry .envelope; count = getD (n .entries) at zeroEntry .count - 1 }); used = n .used; last = n .last } })
-      (sentOf n (done (entered n (takenAt at (entryList n)))))
-  unfolding takenAt choose lowered
-  take-more at h k = rw (lt-leb _ 1 (rw (got at) at k)) (replaced lowered at h _ refl)
+  pub take-more
+      : (at : ℕ) → at < n .used → 1 < getD (n .entries) at zeroEntry .count
+      → changed n (set (n .entries) at (lowered (getD (n .entries) at zeroEntry))) (n .used) ≡ sentOf n (done (entered n (takenAt at (entryList n))))
+  unfolding takenAt choose
+  take-more at h k = rw (lt-leb _ 1 (rw (got at) at k)) (replaced lowered at h)
 
 -- ---- one copy more
 module _ (n : Network) (ready : NetReady n) where
-  pub insert-full : (at : ℕ) (e : Envelope) → at ≤ n .used → 128 ≤ n .used → _≡_ {A = Sent} (record { answer = NetworkFull; network = n }) (sentOf n (fitting n (ins at (single e) (entryList n))))
-  insert-full at e h k = let v = used-is n (ready .laid) in
-      full n _ (fitting-long n _ (omega (arith, length-ins at (single e) (entryList n) (omega arith))))
+  pub insert-full
+      : (at : ℕ) (e : Envelope) → at ≤ n .used → mostEntries ≤ n .used
+      → back NetworkFull n ≡ sentOf n (fitting n (ins at (single e) (entryList n)))
+  unfolding fits
+  insert-full at e h k =
+      let v = used-is n (ready .laid) in
+      let w = length-ins at (single e) (entryList n) (omega arith) in
+      refuses n (ins at (single e) (entryList n)) (rw (lt-leb (length (ins at (single e) (entryList n))) mostEntries (omega arith)))
 
-  pub insert-done : (at : ℕ) (e : Envelope) → at ≤ n .used → n .used < 128 → (es : List Entry) → es ≡ grow (n .used) at (record { envelope = e; count = 1 }) (n .entries)
-      → _≡_ {A = Sent} (record { answer = Done; network = record { kind = n .kind; entries = es; used = n .used + 1; last = n .last } }) (sentOf n (fitting n (ins at (single e) (entryList n))))
-  unfolding single
+  pub insert-done
+      : (at : ℕ) (e : Envelope) → at ≤ n .used → n .used < mostEntries → (es : List Entry) → es ≡ grow (n .used) at (single e) (n .entries)
+      → changed n es (n .used + 1) ≡ sentOf n (fitting n (ins at (single e) (entryList n)))
+  unfolding fits single
   insert-done at e h k es p =
       let v = used-is n (ready .laid) in
       let w = length-ins at (single e) (entryList n) (omega arith) in
-      let q : es ≡ pad 128 zeroEntry (ins at (single e) (entryList n)) =
+      let q : es ≡ pad mostEntries zeroEntry (ins at (single e) (entryList n)) =
       p ∙ ap (grow (n .used) at (single e)) (ready .laid .rest)
-      ∙ ap (λ (j : ℕ). grow j at (single e) (pad 128 zeroEntry (entryList n))) (sym v)
-      ∙ grow-pad 128 (entryList n) at (single e) zeroEntry (omega arith) (omega arith) in
-      with-list n (ready .laid) es (n .used + 1) (ins at (single e) (entryList n)) q (omega arith) _
-      (fitting-done n _ (omega arith) (all-ins (λ x. leb (x .count) 65535) at (single e) (entryList n) (ready .counts)))
+      ∙ ap (λ (j : ℕ). grow j at (single e) (pad mostEntries zeroEntry (entryList n))) (sym v)
+      ∙ grow-pad mostEntries (entryList n) at (single e) zeroEntry (omega arith) (omega arith) in
+      with-list n (ready .laid) es (n .used + 1) (ins at (single e) (entryList n)) q (omega arith)
+      ∙ admits n _
+      (rw (le-leb (length (ins at (single e) (entryList n))) mostEntries (omega arith)) (all-ins countFits at (single e) (entryList n) (ready .counts)))
 
-  module _ (at : ℕ) (h : at < n .used) where
-    counted : length (set (entryList n) at (again (n .kind) (getD (entryList n) at zeroEntry))) ≡ n .used
-    counted = length-set (entryList n) at _ ∙ used-is n (ready .laid)
+  -- more is what the code adds to the count
+  module _ (at : ℕ) (h : at < n .used) (more : ℕ) (m : more ≡ copiesOf (n .kind)) where
+    abbrev there : Entry
+    there = getD (n .entries) at zeroEntry
 
-    all-counted : all (λ x. leb (x .count) 65535) (set (entryList n) at (again (n .kind) (getD (entryList n) at zeroEntry))) ≡ leb (again (n .kind) (getD (entryList n) at zeroEntry) .count) 65535
-    all-counted = let v = used-is n (ready .laid) in all-set (λ x. leb (x .count) 65535) at _ (entryList n) (omega arith) (ready .counts)
-
-    -- as the code reads and writes it
     abbrev raised : Entry
-    raised = record { envelope = getD (n .entries) at zeroEntry .envelope; count = getD (n .entries) at zeroEntry .count + copiesOf (n .kind) }
+    raised = record { envelope = there .envelope; count = there .count + more }
 
-    raised-is : again (n .kind) (getD (entryList n) at zeroEntry) ≡ raised
-    raised-is = ap (again (n .kind)) (sym (got n (ready .laid) at)) ∙ again-is (n .kind) (getD (n .entries) at zeroEntry)
+    abbrev counts-up : List Entry
+    counts-up = set (entryList n) at (again (n .kind) (getD (entryList n) at zeroEntry))
 
-    pub count-full : 65535 < getD (n .entries) at zeroEntry .count + copiesOf (n .kind) → _≡_ {A = Sent} (record { answer = NetworkFull; network = n }) (sentOf n (fitting n (set (entryList n) at (again (n .kind) (getD (entryList n) at zeroEntry)))))
-    count-full k = let v = counted in let f = ready .laid .fit in
-        full n _ (fitting-many n _ (omega arith) (all-counted ∙ ap (λ (x : Entry). leb (x .count) 65535) raised-is ∙ lt-leb _ 65535 k))
+    raised-is : again (n .kind) there ≡ raised
+    raised-is = rw m (again-is (n .kind) there)
 
-    pub count-done : getD (n .entries) at zeroEntry .count + copiesOf (n .kind) ≤ 65535
-        → _≡_ {A = Sent} (record { answer = Done; network = record { kind = n .kind; entries = set (n .entries) at raised; used = n .used; last = n .last } }) (sentOf n (fitting n (set (entryList n) at (again (n .kind) (getD (entryList n) at zeroEntry)))))
-    count-done k = let v = counted in let f = ready .laid .fit in
-        rw (← again-is (n .kind) (getD (n .entries) at zeroEntry)) (replaced n (ready .laid) (again (n .kind)) at h _ (fitting-done n _ (omega arith) (all-counted ∙ ap (λ (x : Entry). leb (x .count) 65535) raised-is ∙ le-leb _ 65535 k)))
+    -- the count alone decides whether it fits
+    fits-by : fits (base .room) (entered n counts-up) ≡ countFits raised
+    unfolding fits
+    fits-by =
+        let v = used-is n (ready .laid) in
+        let w = length-set (entryList n) at (again (n .kind) (getD (entryList n) at zeroEntry)) in
+        let f = ready .laid .fit in
+        rw (le-leb (length counts-up) mostEntries (omega arith))
+        (all-set countFits at _ (entryList n) (omega arith) (ready .counts)
+        ∙ ap (λ (x : Entry). countFits x) (ap (again (n .kind)) (sym (got n (ready .laid) at)) ∙ raised-is))
+
+    pub count-full : base .room .copies < there .count + more → back NetworkFull n ≡ sentOf n (fitting n counts-up)
+    count-full k = refuses n _ (fits-by ∙ lt-leb _ _ k)
+
+    pub count-done : there .count + more ≤ base .room .copies → changed n (set (n .entries) at raised) (n .used) ≡ sentOf n (fitting n counts-up)
+    count-done k = rw (← raised-is) (replaced n (ready .laid) (again (n .kind)) at h ∙ admits n _ (fits-by ∙ le-leb _ _ k))

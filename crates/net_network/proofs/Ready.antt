@@ -1,4 +1,5 @@
--- Networks that are ready for a change: a well-formed one is, and a change of a ready one gives a ready one.
+-- A well-formed network is ready for a change, and a change of a ready one gives a ready one: a send keeps the order and is refused past the room,
+-- a removal only takes away.
 -- Assumes nothing.
 use Prim.Native.Nat.{ℕ, _-_, _≤_}
 use native.Mathlib.Omega.{arith}
@@ -18,20 +19,21 @@ use Rattle.types.specs.declared.Entry.{Entry}
 use Rattle.types.specs.declared.Kind.{Kind}
 use Rattle.types.specs.declared.Kind.the-variants.{Ordered, UnorderedDuplicating, UnorderedNonDuplicating}
 use Rattle.types.specs.declared.LastMessage.the-variants.{Delivered}
+use Rattle.types.specs.Capacities.{mostEntries}
 use Rattle.types.specs.Order.{same}
 use Rattle.rules.specs.Outcome.{done, guard, base}
 use Rattle.rules.specs.Network.{Net, put, sending, fits, send, lowered, fewer, remove, dropping, delivering, isDuplicating, onDeliver, onDrop}
 use Rattle.rules.specs.WellFormed.{countOk, inOrder, netOk}
 use Rattle.rules.proofs.FormedNetwork.{net-is, net-places, net-cuts, fewer-length}
 use Rattle.net_network.specs.declared.Network.{Network}
-use Rattle.net_network.specs.Views.{zeroEntry, netView, networkOf, NetLaid, NetReady, sentOf}
+use Rattle.net_network.specs.Views.{zeroEntry, netView, networkOf, NetLaid, countFits, NetReady, sentOf}
 use Rattle.net_network.proofs.Changes.{used-is}
 
 -- ---- a well-formed network
-count-room : (k : Kind) (c : ℕ) → countOk 65535 k c ≡ true → leb c 65535 ≡ true
+count-room : (k : Kind) (c : ℕ) → countOk (base .room .copies) k c ≡ true → leb c (base .room .copies) ≡ true
 unfolding countOk
-count-room Ordered c h = let z = eqb-true c 1 h in le-leb c 65535 (omega arith)
-count-room UnorderedDuplicating c h = let z = eqb-true c 1 h in le-leb c 65535 (omega arith)
+count-room Ordered c h = let z = eqb-true c 1 h in le-leb c _ (omega arith)
+count-room UnorderedDuplicating c h = let z = eqb-true c 1 h in le-leb c _ (omega arith)
 count-room UnorderedNonDuplicating c h = and-both (leb 1 c) _ h .1
 
 pub ready-of-ok : (k : ℕ) (n : Network) → NetLaid n → netOk (base .room) k (netView n) ≡ true → NetReady n
@@ -40,8 +42,8 @@ ready-of-ok k n laid h =
     record { laid = laid; order = is-chain _ _ (f .order); counts = all-make _ _ (λ x m. count-room (n .kind) (x .count) (f .counts x m)) }
 
 -- ---- the struct of a network
-module _ (m : Net) (few : length (m .entries) ≤ 128) where
-  seen : take (length (m .entries)) (pad 128 zeroEntry (m .entries)) ≡ m .entries
+module _ (m : Net) (few : length (m .entries) ≤ mostEntries) where
+  seen : take (length (m .entries)) (pad mostEntries zeroEntry (m .entries)) ≡ m .entries
   unfolding pad
   seen = take-append-seam (m .entries) _
 
@@ -49,13 +51,13 @@ module _ (m : Net) (few : length (m .entries) ≤ 128) where
   viewed = let s = seen in λ i. record { kind = m .kind; entries = s i; last = m .last }
 
   pub laid-of : NetLaid (networkOf m)
-  laid-of = record { fit = few; rest = ap (pad 128 zeroEntry) (sym seen) }
+  laid-of = record { fit = few; rest = ap (pad mostEntries zeroEntry) (sym seen) }
 
 -- The same facts of the rules' network.
 pub record Orderly (m : Net) : Type 0 where
-  pub few : length (m .entries) ≤ 128
+  pub few : length (m .entries) ≤ mostEntries
   pub order : chain (inOrder (m .kind)) (m .entries) ≡ true
-  pub counts : all (λ x. leb (x .count) 65535) (m .entries) ≡ true
+  pub counts : all countFits (m .entries) ≡ true
 
 pub orderly-of : (n : Network) → NetReady n → Orderly (netView n)
 orderly-of n r = let v = used-is n (r .laid) in let f = r .laid .fit in record { few = omega arith; order = r .order; counts = r .counts }
@@ -64,9 +66,14 @@ pub ready-of : (m : Net) → Orderly m → NetReady (networkOf m)
 ready-of m o = let s = seen m (o .few) in record { laid = laid-of m (o .few); order = rw s (o .order); counts = rw s (o .counts) }
 
 -- ---- the changes
-lowered-room : (y x : Entry) → x ∈ fewer y → leb (y .count) 65535 ≡ true → leb (x .count) 65535 ≡ true
+lowered-room : (y x : Entry) → x ∈ fewer y → countFits y ≡ true → countFits x ≡ true
 unfolding fewer lowered
-lowered-room y x i h = ⊎-elim (λ t. absurd (List·Memᴰ·not-nil (t .1))) (λ t. let w : x ≡ lowered y = List·Memᴰ·eq-of-singleton (t .1) in let z = leb-true (y .count) 65535 h in rw w (le-leb (y .count - 1) 65535 (omega arith))) (in-choose _ _ _ i)
+lowered-room y x i h =
+    let z = leb-true (y .count) _ h in
+    ⊎-elim
+    (λ t. absurd (List·Memᴰ·not-nil (t .1)))
+    (λ t. let w : x ≡ lowered y = List·Memᴰ·eq-of-singleton (t .1) in rw w (le-leb (y .count - 1) _ (omega arith)))
+    (in-choose _ _ _ i)
 
 module _ (m : Net) (o : Orderly m) (e : Envelope) where
   sends : fits (base .room) (sending e m) ≡ true → Orderly (sending e m)
@@ -82,7 +89,9 @@ module _ (m : Net) (o : Orderly m) (e : Envelope) where
   drops = record {
     few = let z = cut-length (λ (x : Entry). same e (x .envelope)) fewer fewer-length (m .entries) in let y = o .few in omega arith;
     order = is-chain _ _ (cut-chain (inOrder (m .kind)) _ _ (net-cuts (m .kind) _) (m .entries) (chain-is _ _ (o .order)));
-    counts = all-make _ _ (λ x i. ⊎-elim (all-in _ _ (o .counts) x) (λ q. lowered-room (q .0) x (q .2) (all-in _ _ (o .counts) (q .0) (q .1))) (cut-in _ _ (m .entries) x i));
+    counts =
+        let fit = all-in _ _ (o .counts) in
+        all-make _ _ (λ x i. ⊎-elim (fit x) (λ q. lowered-room (q .0) x (q .2) (fit (q .0) (q .1))) (cut-in _ _ (m .entries) x i));
   }
 
   delivers : Orderly (delivering e m)

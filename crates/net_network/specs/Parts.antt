@@ -15,12 +15,16 @@ use Rattle.rules.specs.Outcome.{Outcome, done, guard, base}
 use Rattle.rules.specs.Network.{Net, fits, lowered, present, dropping}
 use Rattle.net_network.specs.declared.Network.{Network}
 use Rattle.net_network.specs.declared.Sent.{Sent}
-use Rattle.net_network.specs.Views.{zeroEntry, netView, sentOf}
+use Rattle.net_network.specs.Views.{zeroEntry, netView, back, sentOf}
 
 abbrev pub copiesOf : Kind → ℕ
 copiesOf Ordered = 0
 copiesOf UnorderedDuplicating = 0
 copiesOf UnorderedNonDuplicating = 1
+
+-- Done, with another array and count.
+abbrev pub changed : Network → List Entry → ℕ → Sent
+changed n es u = back Done (record { kind = n .kind; entries = es; used = u; last = n .last })
 
 -- The network with other entries; the same, if they fit.
 abbrev pub entered : Network → List Entry → Net
@@ -41,4 +45,4 @@ absentOf UnorderedNonDuplicating = Absent
 
 -- A removal, with the answer where there is nothing to remove.
 abbrev pub takenOr : Answer → Envelope → Network → Sent
-takenOr absent e n = choose (present e (netView n)) (sentOf n (done (dropping e (netView n)))) (record { answer = absent; network = n })
+takenOr absent e n = choose (present e (netView n)) (sentOf n (done (dropping e (netView n)))) (back absent n)

@@ -7,6 +7,8 @@ use types::Envelope;
 use types::Id;
 use types::Kind;
 use types::LastMessage;
+use types::MOST_COPIES;
+use types::MOST_ENTRIES;
 use types::Message;
 use types::Number;
 use types::Payload;
@@ -18,16 +20,17 @@ ghost use lib.ListN.{getD, set};
 ghost use Rattle.lists.specs.Lists.{lead, ins};
 ghost use Rattle.types.specs.declared.Kind.the-variants.{Ordered};
 ghost use Rattle.types.specs.declared.LastMessage.the-variants.{Nothing};
+ghost use Rattle.types.specs.Capacities.{mostEntries, mostCopies};
 ghost use Rattle.types.specs.Order.{same};
 ghost use Rattle.rules.specs.Outcome.{done, base};
 ghost use Rattle.rules.specs.Network.{single, again, send, onDeliver, onDrop, len};
 ghost use Rattle.net_network.specs.Views.{zeroEntry, entryList, netView, networkOf, NetReady, sentOf};
-ghost use Rattle.net_network.specs.Parts.{copiesOf, entered, fitting, takenAt, takenOr, absentOf};
+ghost use Rattle.net_network.specs.Parts.{copiesOf, changed, entered, fitting, takenAt, takenOr, absentOf};
 
 // Places from the used count on hold the zero entry.
 pub struct Network {
     pub kind: Kind,
-    pub entries: [Entry; 128],
+    pub entries: [Entry; MOST_ENTRIES],
     pub used: usize,
     pub last: LastMessage,
 }
@@ -58,9 +61,26 @@ pub fn blank(kind: Kind) -> Network
     let z = zero_entry();
     Network {
         kind: kind,
-        entries: [z; 128],
+        entries: [z; MOST_ENTRIES],
         used: 0,
         last: LastMessage::Nothing,
+    }
+}
+
+// Done, with other entries.
+fn changed(n: Network, entries: [Entry; MOST_ENTRIES], used: usize) -> Sent
+    ensures { λ r. ⌜ r ≡ changed n entries used ⌝ }
+{
+    let kind = n.kind;
+    let last = n.last;
+    Sent {
+        answer: Answer::Done,
+        network: Network {
+            kind: kind,
+            entries: entries,
+            used: used,
+            last: last,
+        },
     }
 }
 
@@ -70,7 +90,7 @@ fn insert_entry(n: Network, at: usize, e: Envelope) -> Sent
     ensures { λ r. ⌜ r ≡ sentOf n (fitting n (ins at (single e) (entryList n))) ⌝ }
 {
     let used = n.used;
-    if 128 <= used {
+    if MOST_ENTRIES <= used {
         return Sent {
             answer: Answer::NetworkFull,
             network: n,
@@ -82,17 +102,7 @@ fn insert_entry(n: Network, at: usize, e: Envelope) -> Sent
         count: 1,
     };
     let grown = net_entries::insert_at(es, used, at, x);
-    let kind = n.kind;
-    let last = n.last;
-    Sent {
-        answer: Answer::Done,
-        network: Network {
-            kind: kind,
-            entries: grown,
-            used: used + 1,
-            last: last,
-        },
-    }
+    changed(n, grown, used + 1)
 }
 
 // The copies that a send adds to an equal entry: a set holds one.
@@ -115,7 +125,7 @@ fn count_up(n: Network, at: usize) -> Sent
     let more = copies(kind);
     let mut es = n.entries;
     let x = es[at];
-    if 65535 - more < x.count {
+    if MOST_COPIES - more < x.count {
         return Sent {
             answer: Answer::NetworkFull,
             network: n,
@@ -126,16 +136,7 @@ fn count_up(n: Network, at: usize) -> Sent
         envelope: v,
         count: x.count + more,
     };
-    let last = n.last;
-    Sent {
-        answer: Answer::Done,
-        network: Network {
-            kind: kind,
-            entries: es,
-            used: n.used,
-            last: last,
-        },
-    }
+    changed(n, es, n.used)
 }
 
 // One copy less of the entry at a place; the last one takes the entry along.
@@ -145,36 +146,18 @@ fn take_out(n: Network, at: usize) -> Sent
 {
     let mut es = n.entries;
     let used = n.used;
-    let kind = n.kind;
-    let kept = n.last;
     let x = es[at];
     if x.count <= 1 {
         let z = zero_entry();
         let shrunk = net_entries::remove_at(es, used, at, z);
-        return Sent {
-            answer: Answer::Done,
-            network: Network {
-                kind: kind,
-                entries: shrunk,
-                used: used - 1,
-                last: kept,
-            },
-        };
+        return changed(n, shrunk, used - 1);
     }
     let v = x.envelope;
     es[at] = Entry {
         envelope: v,
         count: x.count - 1,
     };
-    Sent {
-        answer: Answer::Done,
-        network: Network {
-            kind: kind,
-            entries: es,
-            used: used,
-            last: kept,
-        },
-    }
+    changed(n, es, used)
 }
 
 // After its flow.
@@ -208,8 +191,7 @@ pub fn send(n: Network, e: Envelope) -> Sent
     let kind = n.kind;
     match kind {
         Kind::Ordered => send_ordered(n, e),
-        Kind::UnorderedDuplicating => send_sorted(n, e),
-        Kind::UnorderedNonDuplicating => send_sorted(n, e),
+        _ => send_sorted(n, e),
     }
 }
 
@@ -223,8 +205,7 @@ fn equal_place(n: Network, e: Envelope) -> usize
     let kind = n.kind;
     match kind {
         Kind::Ordered => net_entries::scan(Look::Differs, es, used, e),
-        Kind::UnorderedDuplicating => net_entries::sorted_place(es, used, e),
-        Kind::UnorderedNonDuplicating => net_entries::sorted_place(es, used, e),
+        _ => net_entries::sorted_place(es, used, e),
     }
 }
 
@@ -270,7 +251,6 @@ pub fn on_deliver(n: Network, e: Envelope) -> Sent
 {
     let kind = n.kind;
     match kind {
-        Kind::Ordered => take_one(n, e, Answer::Absent),
         Kind::UnorderedDuplicating => {
             let es = n.entries;
             let message = LastMessage::Delivered(e);
@@ -284,19 +264,19 @@ pub fn on_deliver(n: Network, e: Envelope) -> Sent
                 },
             }
         }
-        Kind::UnorderedNonDuplicating => take_one(n, e, Answer::Absent),
+        _ => take_one(n, e, Answer::Absent),
     }
 }
 
 fn wide(count: u16) -> u64
-    ensures { λ r. ⌜ (r ≡ count) × (r < 65536) ⌝ }
+    ensures { λ r. ⌜ (r ≡ count) × (r ≤ mostCopies) ⌝ }
 {
     count as u64
 }
 
 // Set size, sum of counts, or sum of flow lengths.
 pub fn len(n: Network) -> u64
-    requires { ⌜ n .used ≤ 128 ⌝ }
+    requires { ⌜ n .used ≤ mostEntries ⌝ }
     ensures { λ r. ⌜ r ≡ len (entryList n) ⌝ }
 {
     let es = n.entries;

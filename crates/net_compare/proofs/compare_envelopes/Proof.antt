@@ -1,12 +1,11 @@
+-- An envelope's key is its flow's and then its message's, so the order is that of the flows, then that of the messages.
+-- Assumes nothing.
+use mathlib.Core.Path.{ap₂, _∙_}
+use Rattle.types.specs.Order.{andThen}
 use Rattle.types.proofs.Laws.{envelope-split}
 use borrow.Author.Needs.{needs}
 use Rattle.net_compare.proofs.compare_envelopes.Statement.{statement}
 use Rattle.net_compare.proofs.compare_envelopes.Tie as tie
-use Rattle.net_compare.proofs.compare_envelopes.Reads as reads
-use Rattle.net_compare.proofs.compare_envelopes.Lts as lts
-use Rattle.net_compare.proofs.and_then.Reads as and-then-reads
-use Rattle.net_compare.proofs.compare_flows.Reads as compare-flows-reads
-use Rattle.net_compare.proofs.compare_messages.Reads as compare-messages-reads
 
 compare-flows-requires : tie.Need-compare-flows-requires
 compare-flows-requires c κs = search needs
@@ -18,7 +17,11 @@ and-then-requires : tie.Need-and-then-requires
 and-then-requires c κs = search needs
 
 returns : tie.Need-returns
-returns c = cc (envelope-split (c .before .before .before .args .a) (c .before .before .before .args .b))
+returns c =
+    let f = c .before .before in
+    c .and-then .ensures
+    ∙ ap₂ andThen (f .compare-flows .ensures) (c .before .compare-messages .ensures)
+    ∙ envelope-split (f .before .args .a) (f .before .args .b)
 
 pub compare-envelopes-spec : {M : Type 1} → statement M
 compare-envelopes-spec =

@@ -1,12 +1,11 @@
-use Rattle.types.specs.Order.{cmpFlow}
+-- The keys of two flows are compared number by number. Nothing follows the last, and Equal after a comparison changes nothing.
+-- Assumes nothing.
+use mathlib.Core.Path.{sym, ap₂, _∙_}
+use Rattle.types.specs.Order.{andThen, cmpFlow}
 use Rattle.types.proofs.Laws.{andThen-equal}
 use borrow.Author.Needs.{needs}
 use Rattle.net_compare.proofs.compare_flows.Statement.{statement}
 use Rattle.net_compare.proofs.compare_flows.Tie as tie
-use Rattle.net_compare.proofs.compare_flows.Reads as reads
-use Rattle.net_compare.proofs.compare_flows.Lts as lts
-use Rattle.net_compare.proofs.and_then.Reads as and-then-reads
-use Rattle.net_compare.proofs.compare_numbers.Reads as compare-numbers-reads
 
 cast-compare-numbers : tie.Need-cast-compare-numbers
 cast-compare-numbers c = search needs
@@ -31,7 +30,9 @@ and-then-requires c κs = search needs
 
 returns : tie.Need-returns
 unfolding cmpFlow
-returns c = simp andThen-equal (cc)
+returns c =
+    c .and-then .ensures
+    ∙ ap₂ andThen (c .before .before .before .before .compare-numbers .ensures) (c .before .compare-numbers2 .ensures ∙ sym (andThen-equal _))
 
 pub compare-flows-spec : {M : Type 1} → statement M
 compare-flows-spec =

@@ -1,8 +1,8 @@
+-- Each way out knows which of the two is smaller, and the definition asks the same two questions.
+-- Assumes nothing.
 use borrow.Author.Tests.{lt-ltb, le-ltb}
 use Rattle.net_compare.proofs.compare_numbers.Statement.{statement}
 use Rattle.net_compare.proofs.compare_numbers.Tie as tie
-use Rattle.net_compare.proofs.compare_numbers.Reads as reads
-use Rattle.net_compare.proofs.compare_numbers.Lts as lts
 
 returns : tie.Need-returns
 returns c = simp (lt-ltb _ _ (c .if1 .taken))

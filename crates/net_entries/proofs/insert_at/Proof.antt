@@ -1,3 +1,5 @@
+-- Each turn puts down what is carried and takes up what stood there. So carrying an entry at i is the same insertion as x at `at` was.
+-- Assumes nothing.
 use borrow.Author.Needs.{needs}
 use native.Mathlib.Omega.{arith}
 use Prim.Native.Nat.{_≤_, _-_}
@@ -5,12 +7,13 @@ use mathlib.Core.Path.{_≡_, _∙_}
 use lib.ListN.{length}
 use Rattle.lists.specs.Lists.{ins}
 use Rattle.lists.proofs.Places.{ins-turn, ins-done}
+use Rattle.types.specs.Capacities.{mostEntries}
 use Rattle.net_entries.specs.Search.{zeroEntry}
 use Rattle.net_entries.proofs.insert_at.Statement.{statement}
 use Rattle.net_entries.proofs.insert_at.Tie as tie
 
 abbrev Inv-loop : tie.InvT-loop
-Inv-loop used at es₀ carry₀ i₀ es carry i = (i ≤ used) × (length es ≡ 128) × (ins i carry es ≡ ins i₀ carry₀ es₀)
+Inv-loop used at es₀ carry₀ i₀ es carry i = (i ≤ used) × (length es ≡ mostEntries) × (ins i carry es ≡ ins i₀ carry₀ es₀)
 
 abbrev μ-loop : tie.MeasureT-loop
 μ-loop used at es₀ carry₀ i₀ es carry i = used - i

@@ -1,3 +1,5 @@
+-- The walk gives the place, and the entry there tells whether it is the envelope's: the entries ascend, so no other can be equal.
+-- Assumes nothing.
 use native.Mathlib.Omega.{arith}
 use mathlib.Core.Path.{_≡_, sym, ap, _∙_}
 use Prim.Native.Nat.{ℕ, _<_}
@@ -14,7 +16,8 @@ use Rattle.net_entries.proofs.look_up.Tie as tie
 within : (s : tie.Start) (at : ℕ) → at < s .args .used → at < length (take (s .args .used) (s .args .t1))
 within s at h = omega (arith, length-take-le (s .args .used) (s .args .t1) (search needs))
 
-read : (s : tie.Start) (at : ℕ) → at < s .args .used → same (s .args .e) (getD (take (s .args .used) (s .args .t1)) at zeroEntry .envelope) ≡ same (s .args .e) (getD (s .args .t1) at zeroEntry .envelope)
+read : (s : tie.Start) (at : ℕ) → at < s .args .used
+    → same (s .args .e) (getD (take (s .args .used) (s .args .t1)) at zeroEntry .envelope) ≡ same (s .args .e) (getD (s .args .t1) at zeroEntry .envelope)
 read s at h = ap (λ x. same (s .args .e) (x .envelope)) (getD-take (s .args .used) (s .args .t1) at zeroEntry h)
 
 scan-requires : tie.Need-scan-requires

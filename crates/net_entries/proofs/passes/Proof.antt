@@ -1,3 +1,5 @@
+-- Each arm knows the test, and calls the comparison that the test is made of.
+-- Assumes nothing.
 use mathlib.Core.Bool.{not}
 use mathlib.Core.Path.{ap}
 use borrow.Author.Needs.{needs}

@@ -1,3 +1,5 @@
+-- Each turn moves the next entry one place down. So what is left when place i is taken out stays the same.
+-- Assumes nothing.
 use borrow.Author.Needs.{needs}
 use native.Mathlib.Omega.{arith}
 use Prim.Native.Nat.{_<_, _-_}
@@ -5,12 +7,13 @@ use mathlib.Core.Path.{_≡_, _∙_}
 use lib.ListN.{length}
 use Rattle.lists.specs.Lists.{del}
 use Rattle.lists.proofs.Places.{del-turn, del-done}
+use Rattle.types.specs.Capacities.{mostEntries}
 use Rattle.net_entries.specs.Search.{zeroEntry}
 use Rattle.net_entries.proofs.remove_at.Statement.{statement}
 use Rattle.net_entries.proofs.remove_at.Tie as tie
 
 abbrev Inv-loop : tie.InvT-loop
-Inv-loop used at z es₀ i₀ es i = (i < used) × (length es ≡ 128) × (del i es ≡ del i₀ es₀)
+Inv-loop used at z es₀ i₀ es i = (i < used) × (length es ≡ mostEntries) × (del i es ≡ del i₀ es₀)
 
 abbrev μ-loop : tie.MeasureT-loop
 μ-loop used at z es₀ i₀ es i = used - i

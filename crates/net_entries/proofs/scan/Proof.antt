@@ -1,3 +1,5 @@
+-- All entries before i pass. So the walk stops at the first that does not, or at the count.
+-- Assumes nothing.
 use borrow.Author.Needs.{needs}
 use native.Mathlib.Omega.{arith}
 use Prim.Native.Nat.{ℕ, _≤_, _<_, _-_}
@@ -33,7 +35,8 @@ returns : tie.Need-returns Inv-loop μ-loop
 returns c =
     let a = c .before .before .before .before .before .args in
     let l = c .before .before .before .before .loop in
-    lead-first (passesOf (a .l) (a .e)) (a .t2) (a .used) (l .i) zeroEntry (search needs) (search needs) (l .inv .1) (λ h. sym (c .before .passes .ensures) ∙ not-true _ (c .if1 .taken))
+    lead-first (passesOf (a .l) (a .e)) (a .t2) (a .used) (l .i) zeroEntry (search needs) (search needs) (l .inv .1)
+    (λ h. sym (c .before .passes .ensures) ∙ not-true _ (c .if1 .taken))
 
 add-i : tie.Need-add-i Inv-loop μ-loop
 add-i c = search needs

@@ -1,4 +1,4 @@
--- `all_pass` meets its contract. What is left from a place on decides, and each turn tests one entry.
+-- Each turn tests one entry, and the test of what is left from there on stays what it was of all.
 -- Assumes nothing.
 use Prim.Native.Nat.{_-_}
 use mathlib.Core.Path.{_≡_, refl, sym, _∙_}
@@ -6,9 +6,9 @@ use lib.Seq.{slice}
 use borrow.Author.Tests.{not-true, not-false}
 use borrow.Author.Needs.{needs}
 use Rattle.lists.specs.Lists.{all}
+use Rattle.lists.proofs.Walks.{walk-on, walk-fails, walk-ends}
 use Rattle.net_network.specs.Views.{zeroEntry}
 use Rattle.net_formed.specs.Formed.{passOf}
-use Rattle.net_formed.proofs.Loops.{all-turn, all-stop, all-over}
 use Rattle.net_formed.proofs.all_pass.Statement.{statement}
 use Rattle.net_formed.proofs.all_pass.Tie as tie
 
@@ -34,7 +34,8 @@ returns : tie.Need-returns Inv-loop μ-loop
 returns c =
     let a = c .before .before .before .before .before .args in
     let l = c .before .before .before .before .loop in
-    sym (sym (l .inv) ∙ all-stop (passOf (a .t)) (a .t2) (l .i) (a .to) zeroEntry (search needs) (search needs) (sym (c .before .passes .ensures) ∙ not-true _ (c .if1 .taken)))
+    walk-fails (passOf (a .t)) (a .t2) (a .to) zeroEntry (search needs) (l .i) _ (search needs)
+    (sym (c .before .passes .ensures) ∙ not-true _ (c .if1 .taken)) (l .inv)
 
 add-i : tie.Need-add-i Inv-loop μ-loop
 add-i c = search needs
@@ -46,13 +47,14 @@ loop-again : tie.Need-loop-again Inv-loop μ-loop
 loop-again c =
     let a = c .before .before .before .before .before .args in
     let l = c .before .before .before .before .loop in
-    all-turn (passOf (a .t)) (a .t2) (l .i) (a .to) zeroEntry (search needs) (search needs) (sym (c .before .passes .ensures) ∙ not-false _ (c .if1 .left)) ∙ l .inv
+    walk-on (passOf (a .t)) (a .t2) (a .to) zeroEntry (search needs) (l .i) _ (search needs)
+    (sym (c .before .passes .ensures) ∙ not-false _ (c .if1 .left)) (l .inv)
 
 returns-2 : tie.Need-returns-2 Inv-loop μ-loop
 returns-2 c =
     let a = c .before .before .args in
     let l = c .before .loop in
-    sym (sym (l .inv) ∙ all-over (passOf (a .t)) (a .t2) (l .i) (a .to) zeroEntry (search needs) (search needs))
+    walk-ends (passOf (a .t)) (a .t2) (a .to) zeroEntry (search needs) (l .i) _ (search needs) (l .inv)
 
 pub all-pass-spec : {M : Type 1} → statement M
 all-pass-spec =

@@ -1,4 +1,4 @@
--- `is_zero` meets its contract. The count and then the envelope decide.
+-- The count and then the envelope decide, in the definition as in the code.
 -- Assumes nothing.
 use mathlib.Core.Path.{ap, _∙_}
 use borrow.Author.Tests.{ne-eqb, eq-eqb}
@@ -21,7 +21,10 @@ same-envelope-requires c κs = search needs
 
 returns-2 : tie.Need-returns-2
 unfolding zeroed
-returns-2 c = rw (eq-eqb _ _ (c .before .if1 .left)) (c .same-envelope .ensures ∙ ap (λ (z : Entry). same (c .before .before .before .before .args .x .envelope) (z .envelope)) (c .before .before .before .zero-entry .ensures))
+returns-2 c =
+    let z = c .before .before .before in
+    rw (eq-eqb _ _ (c .before .if1 .left))
+    (c .same-envelope .ensures ∙ ap (λ (y : Entry). same (z .before .args .x .envelope) (y .envelope)) (z .zero-entry .ensures))
 
 pub is-zero-spec : {M : Type 1} → statement M
 is-zero-spec = tie.close (tie.spec zero-entry-requires returns same-envelope-requires returns-2)

@@ -1,8 +1,7 @@
--- `last_ok` meets its contract. No last message is fine; one is fine on kind 1 from a known source.
+-- No last message is fine. One is fine on kind 1 from a known source, and each arm knows the kind.
 -- Assumes nothing.
-use mathlib.Core.Path.{sym, _∙_}
-use borrow.Author.Tests.{not-true, not-false}
 use borrow.Author.Needs.{needs}
+use Rattle.rules.specs.Network.{isDuplicating}
 use Rattle.rules.specs.WellFormed.{lastOk}
 use Rattle.net_formed.proofs.last_ok.Statement.{statement}
 use Rattle.net_formed.proofs.last_ok.Tie as tie
@@ -17,19 +16,29 @@ returns : tie.Need-returns
 unfolding lastOk
 returns c = rw (c .enum-told .given .1)
 
-is-duplicating-requires : tie.Need-is-duplicating-requires
-is-duplicating-requires c κs = search needs
+enum-told-2 : tie.Need-enum-told-2
+enum-told-2 c = search needs
 
-returns-2 : tie.Need-returns-2
-unfolding lastOk
-returns-2 c = rw (c .before .before .before .last .given .1, sym (c .before .is-duplicating .ensures) ∙ not-true _ (c .if1 .taken))
+enum-told-3 : tie.Need-enum-told-3
+enum-told-3 c = search needs
 
 source-known-requires : tie.Need-source-known-requires
 source-known-requires c κs = search needs
 
+enum-told-4 : tie.Need-enum-told-4
+enum-told-4 c = search needs
+
+returns-2 : tie.Need-returns-2
+unfolding lastOk isDuplicating
+returns-2 c = rw (c .before .before .before .last .given .1, c .enum-told2 .given .1)
+
 returns-3 : tie.Need-returns-3
-unfolding lastOk
-returns-3 c = rw (c .before .before .before .before .last .given .1, sym (c .before .before .is-duplicating .ensures) ∙ not-false _ (c .before .if1 .left)) (c .source-known .ensures)
+unfolding lastOk isDuplicating
+returns-3 c = rw (c .before .before .before .before .last .given .1, c .before .enum-told3 .given .1) (c .source-known .ensures)
+
+returns-4 : tie.Need-returns-4
+unfolding lastOk isDuplicating
+returns-4 c = rw (c .before .before .before .last .given .1, c .enum-told4 .given .1)
 
 pub last-ok-spec : {M : Type 1} → statement M
 last-ok-spec =
@@ -38,7 +47,10 @@ last-ok-spec =
     enum-known-last
     enum-told
     returns
-    is-duplicating-requires
-    returns-2
+    enum-told-2
+    enum-told-3
     source-known-requires
-    returns-3)
+    enum-told-4
+    returns-2
+    returns-3
+    returns-4)

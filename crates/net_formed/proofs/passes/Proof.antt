@@ -1,4 +1,4 @@
--- `passes` meets its contract. Each arm knows the test.
+-- Each arm knows the test, and what it calls promises that test.
 -- Assumes nothing.
 use borrow.Author.Needs.{needs}
 use Rattle.net_formed.specs.Formed.{passOf}

@@ -1,4 +1,4 @@
--- `source_known` meets its contract. The test is the definition's.
+-- The comparison is the definition's own, and the wider number is the same number.
 -- Assumes nothing.
 use mathlib.Core.Path.{refl}
 use borrow.Author.Needs.{needs}

@@ -1,4 +1,4 @@
--- `stands_before` meets its contract. Each arm knows the kind.
+-- Each arm knows the kind, and calls the comparison by which that kind is ordered.
 -- Assumes nothing.
 use mathlib.Core.Bool.{not}
 use mathlib.Core.Path.{ap}

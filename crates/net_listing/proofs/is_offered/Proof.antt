@@ -1,4 +1,4 @@
--- `is_offered` meets its contract. Each arm knows the kind.
+-- Each arm knows the kind. On kind 0 the first entry is offered, and else what `same_flow` tells decides.
 -- Assumes nothing.
 use mathlib.Core.Bool.{not}
 use mathlib.Core.Path.{ap}

@@ -1,4 +1,4 @@
--- `listed_from` meets its contract. Each turn passes an entry whose copies were all listed, so that the answer stays the same.
+-- Each turn passes an entry whose copies were all listed, so that the answer stays the same.
 -- Assumes nothing.
 use Prim.Native.Nat.{_-_}
 use mathlib.Core.Path.{_≡_, refl, sym, _∙_}

@@ -1,4 +1,4 @@
--- `next_deliverable` meets its contract. The first places of the array that can be in use are the used ones.
+-- The places that can be in use are the used ones: a count above the array's length names the whole array.
 -- Assumes nothing.
 use borrow.Author.Needs.{needs}
 use Rattle.lists.proofs.Places.{length-mapped}
@@ -17,7 +17,9 @@ returns : tie.Need-returns
 unfolding offeredNext
 returns c =
     let a = c .before .before .before .args in
-    offered-whole (a .n .entries) (a .n .used) (c .before .in-use .result) (a .at) (search (needs, length-mapped)) (c .before .in-use .ensures) (a .n .kind) (c .offered-from .result) (c .offered-from .ensures)
+    let u = c .before .in-use in
+    offered-whole (a .n .entries) (a .n .used) (u .result) (a .at) (search (needs, length-mapped)) (u .ensures) (a .n .kind)
+    (c .offered-from .result) (c .offered-from .ensures)
 
 pub next-deliverable-spec : {M : Type 1} → statement M
 next-deliverable-spec = tie.close (tie.spec in-use-requires offered-from-requires returns)

@@ -1,4 +1,4 @@
--- `next_listed` meets its contract. The first places of the array that can be in use are the used ones.
+-- The places that can be in use are the used ones: a count above the array's length names the whole array.
 -- Assumes nothing.
 use borrow.Author.Needs.{needs}
 use Rattle.lists.proofs.Places.{length-mapped}
@@ -17,7 +17,9 @@ returns : tie.Need-returns
 unfolding listedNext
 returns c =
     let a = c .before .before .before .args in
-    listed-whole (a .n .entries) (a .n .used) (c .before .in-use .result) (a .c .entry) (search (needs, length-mapped)) (c .before .in-use .ensures) (a .c .copy) (c .listed-from .result) (c .listed-from .ensures)
+    let u = c .before .in-use in
+    listed-whole (a .n .entries) (a .n .used) (u .result) (a .c .entry) (search (needs, length-mapped)) (u .ensures) (a .c .copy)
+    (c .listed-from .result) (c .listed-from .ensures)
 
 pub next-listed-spec : {M : Type 1} → statement M
 next-listed-spec = tie.close (tie.spec in-use-requires listed-from-requires returns)

@@ -1,4 +1,4 @@
--- `offered_from` meets its contract. Each turn passes an entry that is not offered, so that the answer stays the same.
+-- Each turn passes an entry that is not offered, so that the answer stays the same.
 -- Assumes nothing.
 use Prim.Native.Nat.{ℕ, _-_}
 use mathlib.Core.Path.{_≡_, refl, sym, ap, _∙_}
@@ -44,7 +44,9 @@ returns : tie.Need-returns Inv-loop μ-loop
 returns c =
     let a = c .before .before .before .before .before .before .before .before .args in
     let l = c .before .before .before .before .before .before .before .loop in
-    let o = sym (c .before .before .is-offered .ensures ∙ ap (λ (j : ℕ). opens (a .kind) (l .i) (getD (a .t2) j zeroEntry) (getD (a .t2) (l .i) zeroEntry)) (c .before .before .before .before .before .place-before .ensures)) in
+    let b = c .before .before .before .before .before .place-before in
+    let x = getD (a .t2) (l .i) zeroEntry in
+    let o = sym (c .before .before .is-offered .ensures ∙ ap (λ (j : ℕ). opens (a .kind) (l .i) (getD (a .t2) j zeroEntry) x) (b .ensures)) in
     sym (sym (l .inv) ∙ offered-found (a .t2) (a .used) (l .i) (search needs) (a .kind) (search needs) (o ∙ c .before .if1 .taken))
 
 add-i : tie.Need-add-i Inv-loop μ-loop
@@ -57,7 +59,9 @@ loop-again : tie.Need-loop-again Inv-loop μ-loop
 loop-again c =
     let a = c .before .before .before .before .before .before .before .args in
     let l = c .before .before .before .before .before .before .loop in
-    let o = sym (c .before .is-offered .ensures ∙ ap (λ (j : ℕ). opens (a .kind) (l .i) (getD (a .t2) j zeroEntry) (getD (a .t2) (l .i) zeroEntry)) (c .before .before .before .before .place-before .ensures)) in
+    let b = c .before .before .before .before .place-before in
+    let x = getD (a .t2) (l .i) zeroEntry in
+    let o = sym (c .before .is-offered .ensures ∙ ap (λ (j : ℕ). opens (a .kind) (l .i) (getD (a .t2) j zeroEntry) x) (b .ensures)) in
     offered-turn (a .t2) (a .used) (l .i) (search needs) (a .kind) (search needs) (o ∙ c .if1 .left) ∙ l .inv
 
 returns-2 : tie.Need-returns-2 Inv-loop μ-loop

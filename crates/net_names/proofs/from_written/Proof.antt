@@ -1,3 +1,5 @@
+-- Each case of what was written has one case of what is listed, with the same count.
+-- Assumes nothing.
 use mathlib.Core.Path.{sym, ap}
 use borrow.Author.Needs.{needs}
 use Rattle.net_names.specs.Names.{listedOf}

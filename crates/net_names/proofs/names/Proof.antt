@@ -1,4 +1,4 @@
--- `names` meets its contract. Each arm knows the index, and so what is left of the list from there on.
+-- Each arm knows the index, and so what is left of the list from there on: its first name is the one that the arm writes.
 -- Assumes nothing.
 use Prim.Native.Nat.{ℕ, _≤_}
 use native.Mathlib.Omega.{arith}
@@ -14,8 +14,9 @@ use Rattle.net_names.proofs.names.Statement.{statement}
 use Rattle.net_names.proofs.names.Tie as tie
 
 -- an arm: the name is the first of what is left at the index
-arm : (k : ℕ) (name : List ℕ) (more : List (List ℕ)) (index : ℕ) (out : List ℕ) {after : List ℕ} {w : Written} {r : Listed} → drop k names ≡ name ∷ more → index ≡ k
-    → (w ≡ writtenAs name out) × (after ≡ leftOn name out) → r ≡ listedOf w → (r ≡ firstListed (drop index names) out) × (after ≡ firstLeft (drop index names) out)
+arm : (k : ℕ) (name : List ℕ) (more : List (List ℕ)) (index : ℕ) (out : List ℕ) {after : List ℕ} {w : Written} {r : Listed}
+    → drop k names ≡ name ∷ more → index ≡ k → (w ≡ writtenAs name out) × (after ≡ leftOn name out) → r ≡ listedOf w
+    → (r ≡ firstListed (drop index names) out) × (after ≡ firstLeft (drop index names) out)
 arm k name more index out d e p q =
     let h : drop index names ≡ name ∷ more = ap (λ (j : ℕ). drop j names) e ∙ d in
     (q ∙ ap listedOf (p .0) ∙ ap (λ (l : List (List ℕ)). firstListed l out) (sym h), p .1 ∙ ap (λ (l : List (List ℕ)). firstLeft l out) (sym h))

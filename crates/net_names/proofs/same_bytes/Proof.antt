@@ -1,4 +1,4 @@
--- `same_bytes` meets its contract. What is left of both from a place on decides, and each turn compares one place.
+-- What is left of both from a place on decides, and each turn compares one place.
 -- Assumes nothing.
 use Prim.Native.Nat.{_≤_, _-_}
 use mathlib.Core.Path.{_≡_, refl, sym, _∙_}

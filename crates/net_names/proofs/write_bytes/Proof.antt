@@ -1,17 +1,18 @@
--- `write_bytes` meets its contract. The loop keeps that the buffer is the first i bytes of the name and then its own from i on.
+-- After i turns the buffer is the first i bytes of the name and then its own from i on. So at the end the name is whole, and the rest as it was.
 -- Assumes nothing.
 use Prim.Native.Nat.{_≤_, _-_}
+use native.Mathlib.Nat.{zero-add}
+use native.Mathlib.Numerals.{add-one}
 use native.Mathlib.Omega.{arith}
 use mathlib.Core.Path.{ap, _≡_, refl, _∙_}
 use mathlib.Core.List.{_++_}
-use lib.Seq.{take-length}
+use lib.Seq.{take-length, paste-suc}
 use lib.ListN.{length-set, length, take, drop}
 use borrow.Author.Tests.{le-leb, lt-leb}
 use borrow.Author.Needs.{needs}
 use Rattle.lists.specs.Lists.{choose}
 use Rattle.net_names.specs.declared.Written.the-variants.{Bytes}
 use Rattle.net_names.specs.Names.{writtenAs, leftOn}
-use Rattle.net_names.proofs.Bytes.{over-turn}
 use Rattle.net_names.proofs.write_bytes.Statement.{statement}
 use Rattle.net_names.proofs.write_bytes.Tie as tie
 
@@ -45,7 +46,8 @@ loop-again c =
     let l = c .before .before .loop in
     let name = c .before .before .before .before .args .name .now in
     let out = c .before .before .before .before .args .out .now in
-    (search needs, rw (l .inv .1) (over-turn name out (l .i) 0 (search needs) (search needs)), simp length-set (l .inv .2))
+    let e = simp zero-add at (paste-suc out 0 name (l .i) 0 (search needs) (search needs)) in
+    (search needs, rw (l .inv .1, add-one) e, simp length-set (l .inv .2))
 
 same-length : tie.Need-same-length Inv-loop μ-loop
 same-length c = search needs

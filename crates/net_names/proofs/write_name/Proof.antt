@@ -1,4 +1,4 @@
--- `write_name` meets its contract. Each arm knows the kind, and so the name.
+-- Each arm knows the kind, and its constant holds the bytes of that kind's name.
 -- Assumes nothing.
 use borrow.Author.Needs.{needs}
 use Rattle.rules.specs.Network.{nameOf}

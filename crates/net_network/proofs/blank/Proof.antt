@@ -1,3 +1,5 @@
+-- An array of zero entries is the array that holds no entry.
+-- Assumes nothing.
 use borrow.Author.Needs.{needs}
 use Rattle.lists.specs.Lists.{pad}
 use Rattle.net_network.proofs.blank.Statement.{statement}

@@ -1,3 +1,6 @@
+-- Only this entry's count changes, so it alone decides whether there is room.
+-- Assumes nothing.
+use mathlib.Core.Path.{_∙_}
 use native.Mathlib.Omega.{arith}
 use Rattle.net_network.proofs.Changes.{copies-few, count-full, count-done}
 use borrow.Author.Needs.{needs}
@@ -20,10 +23,10 @@ returns : tie.Need-returns
 returns c =
     let k = c .before .before .before .before in
     let s = k .before in
-    count-full (s .args .n) (s .pre .0) (s .args .at) (s .pre .1) (omega (arith, copies-few (s .args .n .kind), k .copies .ensures, c .if1 .taken))
+    count-full (s .args .n) (s .pre .0) (s .args .at) (s .pre .1) (k .copies .result) (k .copies .ensures) (omega (arith, c .if1 .taken))
 
-add-t13 : tie.Need-add-t13
-add-t13 c = search needs
+add-t12 : tie.Need-add-t12
+add-t12 c = search needs
 
 mul-es : tie.Need-mul-es
 mul-es c = search needs
@@ -31,11 +34,17 @@ mul-es c = search needs
 array-set-from-es : tie.Need-array-set-from-es
 array-set-from-es c = search needs
 
+changed-requires : tie.Need-changed-requires
+changed-requires c κs = search needs
+
 returns-2 : tie.Need-returns-2
 returns-2 c =
-    let k = c .before .before .before .before .before .before in
+    let p = c .before in
+    let k = p .before .before .before .before .before .before in
     let s = k .before in
-    rw (k .copies .ensures) (count-done (s .args .n) (s .pre .0) (s .args .at) (s .pre .1) (omega (arith, copies-few (s .args .n .kind), k .copies .ensures, c .before .before .if1 .left)))
+    c .changed .ensures
+    ∙ count-done (s .args .n) (s .pre .0) (s .args .at) (s .pre .1) (k .copies .result) (k .copies .ensures)
+    (omega (arith, copies-few (s .args .n .kind), k .copies .ensures, p .before .before .if1 .left))
 
 pub count-up-spec : {M : Type 1} → statement M
 count-up-spec =
@@ -46,7 +55,8 @@ count-up-spec =
     array-copy-out-x
     sub-if1
     returns
-    add-t13
+    add-t12
     mul-es
     array-set-from-es
+    changed-requires
     returns-2)

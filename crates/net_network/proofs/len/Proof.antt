@@ -1,6 +1,9 @@
+-- After i turns the sum is that of the first i counts. Each is at most mostCopies, so the sum stays below 2^64.
+-- Assumes nothing.
 use lib.ListN.{length, take}
 use mathlib.Core.Path.{_≡_, ap, _∙_}
 use Rattle.lists.proofs.Places.{length-mapped}
+use Rattle.types.specs.Capacities.{mostEntries, mostCopies}
 use Rattle.net_network.specs.Views.{zeroEntry}
 use Rattle.net_network.proofs.Sums.{len-none, len-more}
 use borrow.Author.Needs.{needs}
@@ -11,7 +14,7 @@ use Rattle.net_network.proofs.len.Statement.{statement}
 use Rattle.net_network.proofs.len.Tie as tie
 
 abbrev Inv-loop : tie.InvT-loop
-Inv-loop es used sum₀ i₀ sum i = (i ≤ used) × (sum ≡ len (take i es)) × (sum ≤ 65535 * i)
+Inv-loop es used sum₀ i₀ sum i = (i ≤ used) × (sum ≡ len (take i es)) × (sum ≤ mostCopies * i)
 
 abbrev μ-loop : tie.MeasureT-loop
 μ-loop es used sum₀ i₀ sum i = used - i
@@ -42,7 +45,7 @@ loop-again c =
     let l = c .before .before .before .loop in
     let es = c .before .before .before .before .before .args .n .entries in
     let w = c .wide .ensures in
-    let room : length es ≡ 128 = search (needs, length-mapped) in
+    let room : length es ≡ mostEntries = search (needs, length-mapped) in
     (search needs, omega (arith, l .inv .1, w .0, len-more es (l .i) zeroEntry (omega arith)), omega (arith, l .inv .2, w .1))
 
 returns : tie.Need-returns Inv-loop μ-loop

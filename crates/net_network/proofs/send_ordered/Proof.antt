@@ -1,3 +1,5 @@
+-- The place after all entries whose flow is not later is where the rules put the message.
+-- Assumes nothing.
 use native.Mathlib.Omega.{arith}
 use Rattle.lists.proofs.Places.{lead-le}
 use Rattle.net_entries.specs.declared.Look.the-variants.{UpToFlow}
@@ -22,7 +24,8 @@ returns : tie.Need-returns
 returns c =
     let s = c .before .before .before in
     let n = s .args .n in
-    sent-by n (s .args .e) _ (put-flow (n .kind) (s .args .e) (entryList n) (c .before .scan .result) (s .pre .1) (c .before .scan .ensures)) (c .insert-entry .result) (c .insert-entry .ensures)
+    sent-by n (s .args .e) _ (put-flow (n .kind) (s .args .e) (entryList n) (c .before .scan .result) (s .pre .1) (c .before .scan .ensures))
+    (c .insert-entry .result) (c .insert-entry .ensures)
 
 pub send-ordered-spec : {M : Type 1} → statement M
 send-ordered-spec = tie.close (tie.spec scan-requires insert-entry-requires returns)

@@ -1,3 +1,5 @@
+-- The entries ascend. So the look-up tells the one entry that is equal, or the place where the rules put a new one.
+-- Assumes nothing.
 use native.Mathlib.Omega.{arith}
 use mathlib.Core.Path.{_≡_, sym, _∙_}
 use mathlib.Core.Bool.{true}
@@ -17,12 +19,14 @@ sorted : (s : tie.Start) → chain stands (entryList (s .args .n)) ≡ true
 sorted s = ascend (s .args .n .kind) (entryList (s .args .n)) (s .pre .1) (s .pre .0 .order)
 
 -- What the look-up's two answers tell.
-there : (c : tie.After-known-told) → There (c .before .before .before .before .before .args .e) (entryList (c .before .before .before .before .before .args .n)) (c .before .f .given .0 .0)
+there : (c : tie.After-known-told)
+    → let s = c .before .before .before .before .before in There (s .args .e) (entryList (s .args .n)) (c .before .f .given .0 .0)
 there c =
     let s = c .before .before .before .before .before in
     told-at (s .args .e) (entryList (s .args .n)) (sorted s) _ (sym (c .before .before .before .look-up .ensures) ∙ c .before .f .given .1)
 
-missing : (c : tie.After-known-told2) → Missing (c .before .before .before .before .before .args .e) (entryList (c .before .before .before .before .before .args .n)) (c .before .f2 .given .0 .0)
+missing : (c : tie.After-known-told2)
+    → let s = c .before .before .before .before .before in Missing (s .args .e) (entryList (s .args .n)) (c .before .f2 .given .0 .0)
 missing c =
     let s = c .before .before .before .before .before in
     told-free (s .args .e) (entryList (s .args .n)) (sorted s) _ (sym (c .before .before .before .look-up .ensures) ∙ c .before .f2 .given .1)
@@ -50,13 +54,15 @@ returns : tie.Need-returns
 returns c =
     let s = c .before .before .before .before .before .before in
     let n = s .args .n in
-    sent-by n (s .args .e) _ (put-there (n .kind) (s .args .e) (entryList n) _ (s .pre .1) (there (c .before))) (c .count-up .result) (c .count-up .ensures)
+    sent-by n (s .args .e) _ (put-there (n .kind) (s .args .e) (entryList n) _ (s .pre .1) (there (c .before)))
+    (c .count-up .result) (c .count-up .ensures)
 
 returns-2 : tie.Need-returns-2
 returns-2 c =
     let s = c .before .before .before .before .before .before in
     let n = s .args .n in
-    sent-by n (s .args .e) _ (put-missing (n .kind) (s .args .e) (entryList n) _ (s .pre .1) (missing (c .before))) (c .insert-entry .result) (c .insert-entry .ensures)
+    sent-by n (s .args .e) _ (put-missing (n .kind) (s .args .e) (entryList n) _ (s .pre .1) (missing (c .before)))
+    (c .insert-entry .result) (c .insert-entry .ensures)
 
 pub send-sorted-spec : {M : Type 1} → statement M
 send-sorted-spec =

@@ -1,3 +1,5 @@
+-- The first equal entry is the one that the rules take from. A place at the count says that there is none.
+-- Assumes nothing.
 use Rattle.net_network.proofs.ByKind.{taken, left}
 use borrow.Author.Needs.{needs}
 use Rattle.net_network.proofs.take_one.Statement.{statement}
@@ -11,8 +13,10 @@ take-out-requires c κs = search needs
 
 returns : tie.Need-returns
 returns c =
-    let s = c .before .before .before in
-    taken (s .args .n) (s .pre .laid) (s .args .e) _ (c .before .before .equal-place .result) (c .before .before .equal-place .ensures) (c .before .if1 .taken) (c .take-out .result) (c .take-out .ensures)
+    let p = c .before .before in
+    let s = p .before in
+    taken (s .args .n) (s .pre .laid) (s .args .e) _ (p .equal-place .result) (p .equal-place .ensures) (c .before .if1 .taken)
+    (c .take-out .result) (c .take-out .ensures)
 
 returns-2 : tie.Need-returns-2
 returns-2 c =

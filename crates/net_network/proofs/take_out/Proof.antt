@@ -1,5 +1,8 @@
+-- The last copy takes its entry along, and any other lowers the count: the two cases of the rules.
+-- Assumes nothing.
 use mathlib.Core.Path.{ap, _∙_}
 use Rattle.lists.specs.Lists.{shrink}
+use Rattle.rules.specs.Network.{lowered}
 use Rattle.net_network.proofs.Changes.{take-last, take-more}
 use borrow.Author.Needs.{needs}
 use Rattle.net_network.proofs.take_out.Statement.{statement}
@@ -17,18 +20,23 @@ zero-entry-requires c κs = search needs
 remove-at-requires : tie.Need-remove-at-requires
 remove-at-requires c κs = search needs
 
-sub-t18 : tie.Need-sub-t18
-sub-t18 c = search needs
+sub-changed : tie.Need-sub-changed
+sub-changed c = search needs
+
+changed-requires : tie.Need-changed-requires
+changed-requires c κs = search needs
 
 returns : tie.Need-returns
 returns c =
-    let s = c .before .before .before .before .before .before in
+    let p = c .before in
+    let s = p .before .before .before .before .before .before in
     let n = s .args .n in
-    take-last n (s .pre .0 .laid) (s .args .at) (s .pre .1) (c .before .before .if1 .taken) (c .remove-at .result)
-    (c .remove-at .ensures ∙ ap (λ z. shrink (n .used) (s .args .at) z (n .entries)) (c .before .zero-entry .ensures))
+    c .changed .ensures
+    ∙ take-last n (s .pre .0 .laid) (s .args .at) (s .pre .1) (p .before .before .if1 .taken) (p .remove-at .result)
+    (p .remove-at .ensures ∙ ap (λ z. shrink (n .used) (s .args .at) z (n .entries)) (p .before .zero-entry .ensures))
 
-sub-t20 : tie.Need-sub-t20
-sub-t20 c = search needs
+sub-t16 : tie.Need-sub-t16
+sub-t16 c = search needs
 
 mul-es : tie.Need-mul-es
 mul-es c = search needs
@@ -36,10 +44,15 @@ mul-es c = search needs
 array-set-from-es : tie.Need-array-set-from-es
 array-set-from-es c = search needs
 
+changed-requires-2 : tie.Need-changed-requires-2
+changed-requires-2 c κs = search needs
+
 returns-2 : tie.Need-returns-2
+unfolding lowered
 returns-2 c =
-    let s = c .before .before .before .before .before .before in
-    take-more (s .args .n) (s .pre .0 .laid) (s .args .at) (s .pre .1) (c .before .before .if1 .left)
+    let p = c .before in
+    let s = p .before .before .before .before .before .before in
+    c .changed2 .ensures ∙ take-more (s .args .n) (s .pre .0 .laid) (s .args .at) (s .pre .1) (p .before .before .if1 .left)
 
 pub take-out-spec : {M : Type 1} → statement M
 take-out-spec =
@@ -49,9 +62,11 @@ take-out-spec =
     array-copy-out-x
     zero-entry-requires
     remove-at-requires
-    sub-t18
+    sub-changed
+    changed-requires
     returns
-    sub-t20
+    sub-t16
     mul-es
     array-set-from-es
+    changed-requires-2
     returns-2)
