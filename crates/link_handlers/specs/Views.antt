@@ -2,7 +2,7 @@
 -- Assumes nothing.
 use Prim.Native.Nat.{ℕ}
 use mathlib.Core.Path.{_≡_}
-use mathlib.Core.Bool.{true, false}
+use mathlib.Core.Bool.{Bool, true, false}
 use mathlib.Core.List.{List, [], map}
 use Rattle.lists.specs.Lists.{choose}
 use Rattle.types.specs.declared.Id.{Id}
@@ -14,6 +14,7 @@ use Rattle.link_inner.specs.declared.Table.{Table}
 use Rattle.link_inner.specs.Views.{rulesOf}
 use Rattle.link_durable.specs.declared.Stored.{Stored}
 use Rattle.link_durable.specs.Views.{durableView, durableAs, storedView}
+use Rattle.link_output.specs.declared.Commands.{Commands}
 use Rattle.link_output.specs.Views.{commandsIn, commandsOf, commandAs, commandView}
 use Rattle.link_handlers.specs.declared.Link.{Link}
 use Rattle.link_output.specs.declared.Output.{Output}
@@ -33,7 +34,7 @@ toldBy h = map (commandView (durableView (h .link .durable))) (commandsIn (h .co
 -- ---- what a handler gives: a refusal hands back the link l. The events are for theorems only.
 abbrev pub didAs : Link → Outcome rules.Did → Did
 didAs l m =
-    handedBack (λ k x. record { answer = k; link = x .0; touched = x .1; commands = x .2 })
+    handedBack {B = Link × Bool × Commands} (λ k x. record { answer = k; link = x .0; touched = x .1; commands = x .2 })
     (λ h. (linkAs (h .link), h .touched, commandsOf (map commandAs (h .commands)))) (l, false, commandsOf []) m
 
 -- What is made of an output y: the refusal, or the link that it leaves, in the state s.
