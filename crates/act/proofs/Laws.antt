@@ -53,12 +53,12 @@ alive false d e = refl
 pub no-and : (b d : Bool) → b ≡ false → (b && d) ≡ false
 no-and b d e = rw e
 
-pub late : (b : Bool) (t : ℕ) → 31 < t → (b && leb t network) ≡ false
-late true t h = lt-leb t 31 h
+pub late : (b : Bool) (t : ℕ) → network < t → (b && leb t network) ≡ false
+late true t h = lt-leb t network h
 late false t h = refl
 
-pub and-both : (b : Bool) (t : ℕ) → b ≡ true → t ≤ 31 → (b && leb t network) ≡ true
-and-both b t e h = rw (e, le-leb t 31 h)
+pub and-both : (b : Bool) (t : ℕ) → b ≡ true → t ≤ network → (b && leb t network) ≡ true
+and-both b t e h = rw (e, le-leb t network h)
 
 -- ---- the three tests of a Deliver
 abbrev pub barred : Bool → Bool → Bool → Answer → Refusal

@@ -8,6 +8,7 @@ use lib.Seq.{slice-cons, slice-empty}
 use mathlib.Core.Path.{_≡_, refl, sym, ap, ap₂, _∙_, subst}
 use mathlib.Core.Bool.{Bool, true, false, not, _&&_, true≢false, false≢true}
 use mathlib.Core.List.{List, [], _∷_, map}
+use Rattle.types.specs.Capacities.{mostTold}
 use Rattle.lists.proofs.Members.{not-true}
 use Rattle.types.specs.declared.Id.{Id}
 use Rattle.answers.specs.declared.Answer.{Answer}
@@ -206,12 +207,12 @@ only-one t (rules.Cancel u ∷ l) h = refl
 only-one t (rules.Send r m ∷ l) h = refl
 only-one t (rules.Save d ∷ l) h = refl
 
-pub told-length : (d : rules.Durable) (cs : Commands) → length (cs .list) ≡ 33 → (cs .used ≡ 1 → ⊥) → length (map (commandView d) (commandsIn cs)) ≡ 1 → ⊥
+pub told-length : (d : rules.Durable) (cs : Commands) → length (cs .list) ≡ mostTold → (cs .used ≡ 1 → ⊥) → length (map (commandView d) (commandsIn cs)) ≡ 1 → ⊥
 told-length d cs h k e =
     let m : length (map (commandView d) (commandsIn cs)) ≡ length (take (cs .used) (cs .list)) = length-map (commandsIn cs) (commandView d) ∙ length-map (take (cs .used) (cs .list)) (λ (s : CommandSlot). s .command) in
     k (omega (arith, m, length-take (cs .used) (cs .list)))
 
-pub told-first : (d : rules.Durable) (cs : Commands) (z : CommandSlot) → length (cs .list) ≡ 33 → cs .used ≡ 1 → map (commandView d) (commandsIn cs) ≡ commandView d (getD (cs .list) 0 z .command) ∷ []
+pub told-first : (d : rules.Durable) (cs : Commands) (z : CommandSlot) → length (cs .list) ≡ mostTold → cs .used ≡ 1 → map (commandView d) (commandsIn cs) ≡ commandView d (getD (cs .list) 0 z .command) ∷ []
 told-first d cs z h k =
     rw k (ap (λ (l : List CommandSlot). map (commandView d) (map (λ (s : CommandSlot). s .command) l)) (slice-cons 0 1 (cs .list) z (lit< tt) (omega arith) ∙ ap (λ (l : List CommandSlot). getD (cs .list) 0 z ∷ l) (slice-empty 1 (cs .list))))
 

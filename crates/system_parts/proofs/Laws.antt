@@ -7,6 +7,7 @@ use mathlib.Core.Bool.{true, false}
 use mathlib.Core.List.{List, [], _∷_, map}
 use lib.ListN.{length, getD, set, length-set, length-map}
 use borrow.Author.Tests.{lt-ltb, le-ltb}
+use Rattle.types.specs.Capacities.{mostActors, mostRules}
 use Rattle.lists.specs.Lists.{pad}
 use Rattle.lists.proofs.Places.{set-pad}
 use Rattle.types.specs.declared.Id.{Id}
@@ -77,10 +78,10 @@ module _ (s : System) (r : Ready s) where
     put-system p e =
         let l = m .actors in
         let c : s .count ≡ length (set l (i .0) (p .actor)) = sized ∙ sym (length-set l (i .0) (p .actor)) in
-        let a : set (s .actors) (i .0) (actorAs (p .actor)) ≡ pad 8 zeroActor (map actorAs (set l (i .0) (p .actor))) =
+        let a : set (s .actors) (i .0) (actorAs (p .actor)) ≡ pad mostActors zeroActor (map actorAs (set l (i .0) (p .actor))) =
         ap (λ (x : System). set (x .actors) (i .0) (actorAs (p .actor))) (r .laid)
-        ∙ set-pad 8 (map actorAs l) (i .0) (actorAs (p .actor)) zeroActor (rw (length-map l actorAs) inside)
-        ∙ ap (pad 8 zeroActor) (sym (map-set actorAs l (i .0) (p .actor))) in
-        let t : s .tables ≡ pad 8 zeroTable (map tableFor (set l (i .0) (p .actor))) =
-        ap (λ (x : System). x .tables) (r .laid) ∙ ap (pad 8 zeroTable) (sym (map-kept tableFor l (i .0) (p .actor) (rules.unstarted []) (ap (λ (rs : List Rule). record { rules = pad 16 zeroRule rs; used = length rs }) e))) in
+        ∙ set-pad mostActors (map actorAs l) (i .0) (actorAs (p .actor)) zeroActor (rw (length-map l actorAs) inside)
+        ∙ ap (pad mostActors zeroActor) (sym (map-set actorAs l (i .0) (p .actor))) in
+        let t : s .tables ≡ pad mostActors zeroTable (map tableFor (set l (i .0) (p .actor))) =
+        ap (λ (x : System). x .tables) (r .laid) ∙ ap (pad mostActors zeroTable) (sym (map-kept tableFor l (i .0) (p .actor) (rules.unstarted []) (ap (λ (rs : List Rule). record { rules = pad mostRules zeroRule rs; used = length rs }) e))) in
         λ j. record { count = c j; network = networkOf (p .net); actors = a j; tables = t j }

@@ -9,6 +9,7 @@ use mathlib.Core.List.{List, [], _∷_}
 use lib.ListN.{length, take, replicate}
 use borrow.Author.Tests.{eqb-true}
 use lib.Dec.{eqb}
+use Rattle.types.specs.Capacities.{mostActors}
 use Rattle.lists.specs.Lists.{_∈_, any, all, pad}
 use Rattle.lists.proofs.Members.{any-in, all-in}
 use Rattle.answers.specs.Answers.{answerOf}
@@ -114,7 +115,7 @@ module _ (kind count : ℕ) (tables : List Table) (g : Given) where
       ∙ sym (ap (answeredOf (systemOf blank)) (goes e ∙ ap onward (q .1)))
 
   -- The first system after the given envelopes.
-  module _ (room : length tables ≡ 8) (typed : (t : Table) → t ∈ tables → TableTyped t) (e : startFine kind count tables g ≡ true)
+  module _ (room : length tables ≡ mostActors) (typed : (t : Table) → t ∈ tables → TableTyped t) (e : startFine kind count tables g ≡ true)
       (s : Sent) (f : s ≡ sentOf (networkOf (emptyNet (kindOf kind))) sent) (h : isDone (s .answer) ≡ true) where
     abbrev fine : Fine kind count tables g
     fine = fine-of kind count tables g room e
@@ -130,7 +131,7 @@ module _ (kind count : ℕ) (tables : List Table) (g : Given) where
     unfolding mapped
     left =
         let n = count-seen count tables room (fine .few) in
-        let b = boot-formed base (kindOf kind) ts (subst (λ (k : ℕ). 1 ≤ k) (sym n) (fine .some)) (subst (λ (k : ℕ). k ≤ 8) (sym n) (fine .few)) (tables-sound (take count tables) (fine .tables-ok)) in
+        let b = boot-formed base (kindOf kind) ts (subst (λ (k : ℕ). 1 ≤ k) (sym n) (fine .some)) (subst (λ (k : ℕ). k ≤ mostActors) (sym n) (fine .few)) (tables-sound (take count tables) (fine .tables-ok)) in
         fill-formed base (givenView g) first b
         (λ x i. subst (λ (k : ℕ). sourceKnown k x ≡ true) (sym (boot-size base (kindOf kind) ts ∙ n)) (all-in _ _ (fine .sources) x i))
         .value m (filled ∙ ap (mapped (λ (n : Net). withNet n first)) (net .1))
@@ -139,7 +140,7 @@ module _ (kind count : ℕ) (tables : List Table) (g : Given) where
     formed = is-sys base m (left .formed)
 
     -- The struct that the code makes.
-    module _ (bs : List Actor) (own : List Table) (fresh : bs ≡ pad 8 zeroActor (replicate count (actorAs (rules.unstarted [])))) (kept : own ≡ pad 8 zeroTable (take count tables)) where
+    module _ (bs : List Actor) (own : List Table) (fresh : bs ≡ pad mostActors zeroActor (replicate count (actorAs (rules.unstarted [])))) (kept : own ≡ pad mostActors zeroTable (take count tables)) where
       abbrev made : System
       made = record { count = count; network = s .network; actors = bs; tables = own }
 

@@ -7,6 +7,7 @@ use mathlib.Core.Bool.{true, false}
 use mathlib.Core.List.{List, [], _∷_}
 use lib.ListN.{length, drop, getD, set, drop-of-length-le}
 use lib.Seq.{drop-cons}
+use Rattle.types.specs.Capacities.{mostActors}
 use Rattle.lists.proofs.Members.{every-cons}
 use Rattle.answers.specs.Answers.{answerOf}
 use Rattle.answers.specs.declared.Answer.the-variants.{Done}
@@ -116,7 +117,7 @@ wakes-begin s a = record { awaits = a; same = refl }
 pub many : (s : System) → Ready s → s .count ≡ length (sysView s .actors)
 many s r = counted s (r .laid) (r .formed)
 
-pub few : (s : System) → Ready s → s .count ≤ 8
+pub few : (s : System) → Ready s → s .count ≤ mostActors
 few s r = let c = many s r in let h = formed-of (sysView s) (r .formed) .few in omega arith
 
 module _ (s : System) (i : ℕ) (network : Network) (actors : List Actor) (first : Awaiting s) (g : Waking s i network actors) (h : i < s .count) where

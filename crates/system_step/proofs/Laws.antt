@@ -8,6 +8,7 @@ use mathlib.Core.List.{List, [], _∷_, map}
 use lib.ListN.{length, getD, length-map}
 use lib.Dec.{ltb}
 use borrow.Author.Tests.{ltb-true}
+use Rattle.types.specs.Capacities.{mostActors}
 use Rattle.lists.specs.Lists.{choose, every}
 use Rattle.lists.proofs.Members.{not-true, every-cons}
 use Rattle.lists.proofs.Places.{length-pad}
@@ -72,7 +73,7 @@ module _ (s : System) (r : Ready s) (a : Action) where
   pub some : 1 ≤ s .count
   some = let z = formed-of m (r .formed) .one in let c = counted s (r .laid) (r .formed) in omega arith
 
-  pub few : s .count ≤ 8
+  pub few : s .count ≤ mostActors
   few = let z = formed-of m (r .formed) .few in let c = counted s (r .laid) (r .formed) in omega arith
 
   abbrev i : Id
@@ -132,17 +133,17 @@ module _ (s : System) (r : Ready s) (a : Action) where
 
   -- ---- as the code reads them: whatever stands beyond the arrays
   module _ (k : ℕ) (here : k ≡ seat (s .count) a) (d : Actor) (e : Table) where
-    pub below : k < 8
+    pub below : k < mostActors
     below = let h = inside in let f = few in omega arith
 
     same-actor : getD (s .actors) k d ≡ actor
     same-actor =
-        let n = ap (λ (x : System). length (x .actors)) (r .laid) ∙ length-pad 8 zeroActor (map actorAs (m .actors)) (let z = formed-of m (r .formed) .few in let q = length-map (m .actors) actorAs in omega arith) in
+        let n = ap (λ (x : System). length (x .actors)) (r .laid) ∙ length-pad mostActors zeroActor (map actorAs (m .actors)) (let z = formed-of m (r .formed) .few in let q = length-map (m .actors) actorAs in omega arith) in
         get-same (s .actors) k d zeroActor (let b = below in omega arith) ∙ ap (λ (j : ℕ). getD (s .actors) j zeroActor) here
 
     same-table : getD (s .tables) k e ≡ table
     same-table =
-        let n = ap (λ (x : System). length (x .tables)) (r .laid) ∙ length-pad 8 zeroTable (map tableFor (m .actors)) (let z = formed-of m (r .formed) .few in let q = length-map (m .actors) tableFor in omega arith) in
+        let n = ap (λ (x : System). length (x .tables)) (r .laid) ∙ length-pad mostActors zeroTable (map tableFor (m .actors)) (let z = formed-of m (r .formed) .few in let q = length-map (m .actors) tableFor in omega arith) in
         get-same (s .tables) k e zeroTable (let b = below in omega arith) ∙ ap (λ (j : ℕ). getD (s .tables) j zeroTable) here
 
     -- What the core asks.

@@ -3,6 +3,7 @@ use mathlib.Core.Path.{_≡_, sym, ap, _∙_, subst}
 use native.Mathlib.Numerals.{add-one}
 use borrow.Author.Tests.{not-true, not-false}
 use lib.ListN.{length}
+use Rattle.types.specs.Capacities.{mostTold}
 use Rattle.link_output.specs.declared.CommandSlot.{CommandSlot}
 use Rattle.link_output.specs.declared.LinkCommand.the-variants.{Set}
 use Rattle.rules.specs.Outcome.{base}
@@ -19,7 +20,7 @@ abbrev zero : CommandSlot
 zero = record { command = Set 0 }
 
 abbrev Inv-loop : tie.InvT-loop
-Inv-loop i n a list used net₀ act₀ j₀ net act j = (j ≤ used) × (used ≤ 33) × (length list ≡ 33) × Turn i n a list used j net act
+Inv-loop i n a list used net₀ act₀ j₀ net act j = (j ≤ used) × (used ≤ mostTold) × (length list ≡ mostTold) × Turn i n a list used j net act
 
 abbrev μ-loop : tie.MeasureT-loop
 μ-loop i n a list used net₀ act₀ j₀ net act j = used - j

@@ -7,6 +7,7 @@ use Prim.Native.Nat.{_≤_, _-_}
 use mathlib.Core.Path.{_≡_, sym, subst, _∙_}
 use lib.ListN.{length}
 use borrow.Author.Tests.{not-true, not-false}
+use Rattle.types.specs.Capacities.{mostEntries}
 use Rattle.lists.proofs.Places.{length-mapped}
 use Rattle.net_network.specs.Views.{zeroEntry}
 use Rattle.system_start.proofs.Sends.{Filling, fill-begins, fill-stops, fill-goes, fill-ends}
@@ -14,7 +15,7 @@ use Rattle.system_start.proofs.fill.Statement.{statement}
 use Rattle.system_start.proofs.fill.Tie as tie
 
 abbrev Inv-loop : tie.InvT-loop
-Inv-loop n used list net₀ i₀ net i = (i ≤ used) × (length list ≡ 128) × Filling n list used i net
+Inv-loop n used list net₀ i₀ net i = (i ≤ used) × (length list ≡ mostEntries) × Filling n list used i net
 
 abbrev μ-loop : tie.MeasureT-loop
 μ-loop n used list net₀ i₀ net i = used - i

@@ -3,6 +3,7 @@
 use mathlib.Core.Path.{sym, ap, _∙_}
 use borrow.Author.Tests.{not-true, not-false}
 use borrow.Author.Needs.{needs}
+use Rattle.types.specs.Capacities.{mostActors}
 use Rattle.answers.specs.Answers.{answerOf}
 use Rattle.rules.specs.Start.{blank}
 use Rattle.system.specs.Views.{systemOf}
@@ -29,7 +30,7 @@ filled-requires : tie.Need-filled-requires
 filled-requires c κs =
     let s = c .before .before in
     let a = s .args in
-    fine-of (a .kind) (a .count) (a .tables) (a .given) (tables-say 8 (a .tables) _ (s .good .1 .1 .0) .0) (sym (c .before .startable .ensures) ∙ not-false _ (c .if1 .left)) .held
+    fine-of (a .kind) (a .count) (a .tables) (a .given) (tables-say mostActors (a .tables) _ (s .good .1 .1 .0) .0) (sym (c .before .startable .ensures) ∙ not-false _ (c .if1 .left)) .held
 
 is-done-requires : tie.Need-is-done-requires
 is-done-requires c κs = search needs
@@ -51,21 +52,21 @@ fresh-actors-requires c κs =
     let b = c .before .before .before .before in
     let s = b .before .before in
     let a = s .args in
-    fine-of (a .kind) (a .count) (a .tables) (a .given) (tables-say 8 (a .tables) _ (s .good .1 .1 .0) .0) (sym (b .before .startable .ensures) ∙ not-false _ (b .if1 .left)) .few
+    fine-of (a .kind) (a .count) (a .tables) (a .given) (tables-say mostActors (a .tables) _ (s .good .1 .1 .0) .0) (sym (b .before .startable .ensures) ∙ not-false _ (b .if1 .left)) .few
 
 first-tables-requires : tie.Need-first-tables-requires
 first-tables-requires c κs =
     let b = c .before .before .before .before .before in
     let s = b .before .before in
     let a = s .args in
-    fine-of (a .kind) (a .count) (a .tables) (a .given) (tables-say 8 (a .tables) _ (s .good .1 .1 .0) .0) (sym (b .before .startable .ensures) ∙ not-false _ (b .if1 .left)) .few
+    fine-of (a .kind) (a .count) (a .tables) (a .given) (tables-say mostActors (a .tables) _ (s .good .1 .1 .0) .0) (sym (b .before .startable .ensures) ∙ not-false _ (b .if1 .left)) .few
 
 wake-all-requires : tie.Need-wake-all-requires
 wake-all-requires c κs =
     let b = c .before .before .before .before .before .before in
     let s = b .before .before in
     let a = s .args in
-    let y = tables-say 8 (a .tables) _ (s .good .1 .1 .0) in
+    let y = tables-say mostActors (a .tables) _ (s .good .1 .1 .0) in
     let n = c .before .before .before .before .before .filled in
     made-awaits (a .kind) (a .count) (a .tables) (a .given) (y .0) (y .1) (sym (b .before .startable .ensures) ∙ not-false _ (b .if1 .left))
     (n .result) (n .ensures) (sym (c .before .before .before .before .is-done .ensures) ∙ not-false _ (c .before .before .before .if2 .left))
@@ -76,7 +77,7 @@ returns-3 c =
     let b = c .before .before .before .before .before .before .before in
     let s = b .before .before in
     let a = s .args in
-    let y = tables-say 8 (a .tables) _ (s .good .1 .1 .0) in
+    let y = tables-say mostActors (a .tables) _ (s .good .1 .1 .0) in
     let n = c .before .before .before .before .before .before .filled in
     c .wake-all .ensures
     ∙ ap (answeredOf (systemOf blank)) (made-wakes (a .kind) (a .count) (a .tables) (a .given) (y .0) (y .1) (sym (b .before .startable .ensures) ∙ not-false _ (b .if1 .left))

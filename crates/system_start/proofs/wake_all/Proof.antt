@@ -7,6 +7,7 @@ use Prim.Native.Nat.{_≤_, _-_}
 use mathlib.Core.Path.{_≡_, sym, ap, _∙_}
 use lib.ListN.{length, length-set}
 use borrow.Author.Tests.{not-true, not-false}
+use Rattle.types.specs.Capacities.{mostActors}
 use Rattle.lists.proofs.Places.{length-mapped}
 use Rattle.sys_actor.specs.Views.{zeroActor}
 use Rattle.system.specs.declared.System.{System}
@@ -17,7 +18,7 @@ use Rattle.system_start.proofs.wake_all.Tie as tie
 
 abbrev Inv-loop : tie.InvT-loop
 Inv-loop none count tables network₀ actors₀ at₀ network actors at =
-    (count ≤ 8) × (length tables ≡ 8) × (length actors ≡ 8) × Waking (record { count = count; network = network₀; actors = actors₀; tables = tables }) at network actors
+    (count ≤ mostActors) × (length tables ≡ mostActors) × (length actors ≡ mostActors) × Waking (record { count = count; network = network₀; actors = actors₀; tables = tables }) at network actors
 
 abbrev μ-loop : tie.MeasureT-loop
 μ-loop none count tables network₀ actors₀ at₀ network actors at = count - at
