@@ -62,7 +62,8 @@ and-both b t e h = rw (e, le-leb t network h)
 
 -- ---- the three tests of a Deliver
 abbrev pub barred : Bool → Bool → Bool → Answer → Refusal
-barred source heard there found = firstOf (choose source Nothing (Because OutOfRange)) (firstOf (choose heard Nothing (Because Ignored)) (choose there Nothing (Because found)))
+barred source heard there found = firstOf (choose source Nothing (Because OutOfRange))
+    (firstOf (choose heard Nothing (Because Ignored)) (choose there Nothing (Because found)))
 
 pub record Open (source heard there : Bool) : Type 0 where
   pub source-known : source ≡ true
@@ -103,9 +104,11 @@ module _ (n : Network) (a : Actor) where
 
     pub dropped : (o : Outcome Net) (s : Sent) → s ≡ sentOf n o
         → _≡_ {A = Touched} (record { answer = s .answer; network = s .network; actor = a }) (touchedOf n a (mapped (λ x. netIn x (partView rs n a)) o))
-    dropped o s e = (λ j. record { answer = e j .answer; network = e j .network; actor = a }) ∙ sym (sent-touched rs n a ready laid o) ∙ ap (touchedOf n a) (as-bind (partView rs n a) o)
+    dropped o s e = (λ j. record { answer = e j .answer; network = e j .network; actor = a }) ∙ sym (sent-touched rs n a ready laid o)
+        ∙ ap (touchedOf n a) (as-bind (partView rs n a) o)
 
     -- ---- a Crash leaves the network
-    pub crashed : (b : Actor) → b ≡ actorAs (crashPart (partView rs n a) .actor) → _≡_ {A = Touched} (record { answer = Done; network = n; actor = b }) (touchedOf n a (done (crashPart (partView rs n a))))
+    pub crashed : (b : Actor) → b ≡ actorAs (crashPart (partView rs n a) .actor)
+        → _≡_ {A = Touched} (record { answer = Done; network = n; actor = b }) (touchedOf n a (done (crashPart (partView rs n a))))
     unfolding crashPart actorIn answerOf
     crashed b e = let w = sym (same-net rs n a ready laid) in λ j. record { answer = Done; network = w j; actor = e j }

@@ -150,7 +150,8 @@ fn in_use(used: usize) -> usize
 // All of them, or the first refusal with everything as it was.
 fn run_commands(i: Id, n: Network, a: Actor, cs: Commands) -> Touched
     requires { ⌜ NetReady n × ActorLaid a ⌝ }
-    ensures { λ x. ⌜ ((rs : List Rule) → x ≡ touchedOf n a (runPart (base .room) i (map (commandView (durableView (a .link .durable))) (commandsIn cs)) (partView rs n a))) ⌝ }
+    ensures { λ x. ⌜ ((rs : List Rule)
+        → x ≡ touchedOf n a (runPart (base .room) i (map (commandView (durableView (a .link .durable))) (commandsIn cs)) (partView rs n a))) ⌝ }
 {
     let list = cs.list;
     let used = in_use(cs.used);
@@ -233,7 +234,8 @@ fn finish(i: Id, n: Network, a: Actor, d: Did) -> Touched
 // ---- the actions, after 2 and Ignored for the destination
 // A message to a live actor: its envelope has been taken from the network as s says, then the commands run.
 pub fn hand_over(e: Envelope, s: Sent, n: Network, a: Actor, t: Table) -> Touched
-    requires { ⌜ NetReady n × ActorLaid a × (tableOk t ≡ true) × (durableLaid (a .link .durable) ≡ true) × (e .src .0 < mostActors) × (s ≡ sentOf n (onDeliver e (netView n))) ⌝ }
+    requires { ⌜ NetReady n × ActorLaid a × (tableOk t ≡ true) × (durableLaid (a .link .durable) ≡ true)
+        × (e .src .0 < mostActors) × (s ≡ sentOf n (onDeliver e (netView n))) ⌝ }
     ensures { λ x. ⌜ x ≡ touchedOf n a (deliverPart base e (partView (rulesOf t) n a)) ⌝ }
 {
     let found = s.answer;

@@ -27,7 +27,19 @@ use Rattle.link_timers.specs.Views.{listed, timersOf}
 use Rattle.link_timers.proofs.Listed.{timers-listed, listed-timers, listed-timers-of}
 use Rattle.link_durable.specs.declared.Durable.{Durable}
 use Rattle.link_durable.specs.declared.Stored.{Stored}
-use Rattle.link_durable.specs.Views.{zeroDurable, durableView, durableAs, storedView, storedAs, durableLaid, unsaved, blankDurable, storedLaid, durableFine, storedFine}
+use Rattle.link_durable.specs.Views.{
+  zeroDurable,
+  durableView,
+  durableAs,
+  storedView,
+  storedAs,
+  durableLaid,
+  unsaved,
+  blankDurable,
+  storedLaid,
+  durableFine,
+  storedFine,
+}
 use Rattle.link_durable.proofs.Containers.{DurableLaid, durable-is, durable-fits, durable-back, durable-same}
 use Rattle.link_durable.proofs.Kept.{fine-laid, fine-formed, stored-laid, stored-formed, durable-kept, stored-kept}
 use Rattle.link_handlers.specs.Views.{linkView, linkAs}

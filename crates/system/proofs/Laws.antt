@@ -33,7 +33,20 @@ use Rattle.sys_actor.specs.declared.Actor.{Actor}
 use Rattle.sys_actor.specs.Views.{actorAs, actorView, ActorLaid, actorLaid, actorFine, zeroActor, blankActor}
 use Rattle.sys_actor.proofs.Laws.{actor-laid, actor-back, actor-kept, fine-laid-out, timers-of, rules-of, blank-zero, zero-blank}
 use Rattle.system.specs.declared.System.{System}
-use Rattle.system.specs.Views.{zeroTable, tableAs, TableLaid, seated, tableFor, sysView, systemOf, SystemLaid, tableLaid, blankTable, systemLaid, systemFine}
+use Rattle.system.specs.Views.{
+  zeroTable,
+  tableAs,
+  TableLaid,
+  seated,
+  tableFor,
+  sysView,
+  systemOf,
+  SystemLaid,
+  tableLaid,
+  blankTable,
+  systemLaid,
+  systemFine,
+}
 use Rattle.system.proofs.Types.{SystemTyped}
 use Rattle.system.proofs.Tables.{pad-rest, all-same, drop-in, rest-same, table-laid, table-parts, table-make, blank-table, rules-back, table-kept}
 use Rattle.system.proofs.Tables as tables
@@ -69,12 +82,14 @@ pub record Parts (s : System) : Type 0 where
 parts-of : (s : System) → systemLaid s ≡ true → Parts s
 unfolding systemLaid
 parts-of s e =
-    let a = every-cons _ _ e in let b = every-cons _ _ (a .1) in let c = every-cons _ _ (b .1) in let d = every-cons _ _ (c .1) in let f = every-cons _ _ (d .1) in
+    let a = every-cons _ _ e in let b = every-cons _ _ (a .1) in let c = every-cons _ _ (b .1) in let d = every-cons _ _ (c .1) in
+    let f = every-cons _ _ (d .1) in
     record { few = leb-true _ _ (a .0); net = b .0; actors = c .0; tables = d .0; no-actors = f .0; no-tables = every-cons _ _ (f .1) .0 }
 
 of-parts : (s : System) → Parts s → systemLaid s ≡ true
 unfolding systemLaid
-of-parts s p = every-make _ _ (le-leb _ _ (p .few)) (every-make _ _ (p .net) (every-make _ _ (p .actors) (every-make _ _ (p .tables) (every-make _ _ (p .no-actors) (every-make _ _ (p .no-tables) every-nil)))))
+of-parts s p = every-make _ _ (le-leb _ _ (p .few)) (every-make _ _ (p .net)
+    (every-make _ _ (p .actors) (every-make _ _ (p .tables) (every-make _ _ (p .no-actors) (every-make _ _ (p .no-tables) every-nil)))))
 
 -- ---- the parts of the rules' test
 pub record Formed (m : rules.Sys) : Type 0 where
@@ -115,8 +130,10 @@ module _ (s : System) (y : SystemTyped s) where
       let p = parts-of s e in
       let n = sym (seen (p .few)) in
       let w = held (s .network) (laid-out (s .network) (y .entries) (p .net)) in
-      let za = all-same blankActor zeroActor (drop (s .count) (s .actors)) (λ a m. blank-zero a (y .actor a (drop-in (s .count) (s .actors) a m))) (p .no-actors) in
-      let zt = all-same blankTable zeroTable (drop (s .count) (s .tables)) (λ t m. blank-table t (y .table t (drop-in (s .count) (s .tables) t m))) (p .no-tables) in
+      let za = all-same blankActor zeroActor (drop (s .count) (s .actors)) (λ a m. blank-zero a (y .actor a (drop-in (s .count) (s .actors) a m)))
+      (p .no-actors) in
+      let zt = all-same blankTable zeroTable (drop (s .count) (s .tables)) (λ t m. blank-table t (y .table t (drop-in (s .count) (s .tables) t m)))
+      (p .no-tables) in
       let la = actors-again ts bs (paired (p .few)) (λ a m. actor-laid a (y .actor a (take-in (s .count) (s .actors) a m)) (all-in _ _ (p .actors) a m)) in
       let lt = tables-again ts bs (paired (p .few)) (λ t m. table-laid t (y .table t (take-in (s .count) (s .tables) t m)) (all-in _ _ (p .tables) t m)) in
       let a = rest-same zeroActor mostActors (s .actors) (s .count) (y .actors) (p .few) za ∙ ap (pad mostActors zeroActor) la in
@@ -152,10 +169,13 @@ module _ (m : rules.Sys) (ok : wellFormed base m ≡ true) where
   pub image-laid : SystemLaid (systemOf m)
   image-laid = ap systemOf (sym system-back)
 
-  rest-blank : {B : Type 0} (g : rules.Actor → B) (p : B → Bool) (z : B) → p z ≡ true → all p (drop (length (m .actors)) (pad mostActors z (map g (m .actors)))) ≡ true
-  rest-blank g p z e = ap (λ (k : ℕ). all p (drop k (pad mostActors z (map g (m .actors))))) (sym (length-map (m .actors) g)) ∙ pad-rest p z e mostActors (map g (m .actors))
+  rest-blank : {B : Type 0} (g : rules.Actor → B) (p : B → Bool) (z : B) → p z ≡ true
+      → all p (drop (length (m .actors)) (pad mostActors z (map g (m .actors)))) ≡ true
+  rest-blank g p z e = ap (λ (k : ℕ). all p (drop k (pad mostActors z (map g (m .actors))))) (sym (length-map (m .actors) g))
+      ∙ pad-rest p z e mostActors (map g (m .actors))
 
-  each-kept : {B : Type 0} (g : rules.Actor → B) (p : B → Bool) (z : B) → ((a : rules.Actor) → actorOk (base .limits) (length (m .actors)) a ≡ true → p (g a) ≡ true)
+  each-kept : {B : Type 0} (g : rules.Actor → B) (p : B → Bool) (z : B)
+      → ((a : rules.Actor) → actorOk (base .limits) (length (m .actors)) a ≡ true → p (g a) ≡ true)
       → all p (take (length (m .actors)) (pad mostActors z (map g (m .actors)))) ≡ true
   each-kept g p z h = ap (all p) (mapped g z) ∙ sym (all-map p g (m .actors)) ∙ all-make _ _ (λ a i. h a (all-in _ _ (f .actors) a i))
 
@@ -215,7 +235,8 @@ module _ (s : System) (laid : SystemLaid s) (ok : wellFormed base (sysView s) �
 
     pub actor-view : seated (getD (s .tables) (i .0) zeroTable) (getD (s .actors) (i .0) zeroActor) ≡ here
     actor-view =
-        (λ j. seated (table-at j) (actor-at j)) ∙ ap (λ (rs : List Rule). actorView rs (actorAs here)) (rules-back (here .rules)) ∙ actor-back here (timers-of (length l) here seat-ok)
+        (λ j. seated (table-at j) (actor-at j)) ∙ ap (λ (rs : List Rule). actorView rs (actorAs here)) (rules-back (here .rules))
+        ∙ actor-back here (timers-of (length l) here seat-ok)
 
     pub actor-is-laid : ActorLaid (getD (s .actors) (i .0) zeroActor)
     actor-is-laid = subst ActorLaid (sym actor-at) (ap actorAs (sym (actor-back here (timers-of (length l) here seat-ok))))

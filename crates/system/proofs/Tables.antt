@@ -50,7 +50,8 @@ module _ {A : Type 0} (p : A → Bool) (z : A) (passes : p z ≡ true) where
 pub drop-in : {A : Type 0} (n : ℕ) (l : List A) (x : A) → x ∈ drop n l → x ∈ l
 drop-in {A} n l x m = subst (λ (k : List A). x ∈ k) (take-append-drop n l) (Memᴰ·append-right (take n l) m)
 
-pub rest-same : {A : Type 0} (z : A) (n : ℕ) (es : List A) (used : ℕ) → length es ≡ n → used ≤ n → drop used es ≡ replicate (length (drop used es)) z → es ≡ pad n z (take used es)
+pub rest-same : {A : Type 0} (z : A) (n : ℕ) (es : List A) (used : ℕ) → length es ≡ n → used ≤ n → drop used es ≡ replicate (length (drop used es)) z
+    → es ≡ pad n z (take used es)
 unfolding pad
 rest-same {A} z n es used h k e =
     let v = length-take-le used es (omega arith) in
@@ -73,9 +74,11 @@ unfolding blankRule
 blank-zero r n e =
     let a = every-cons _ _ e in let b = every-cons _ _ (a .1) in let c = every-cons _ _ (b .1) in let d = every-cons _ _ (c .1) in
     let f = every-cons _ _ (d .1) in let g = every-cons _ _ (f .1) in let h = every-cons _ _ (g .1) in
-    let s : r .commands ≡ replicate mostCommands zeroSlot = all-same unused zeroSlot (r .commands) (λ x m. unused-zero x) (every-cons _ _ (h .1) .0) ∙ ap (λ (k : ℕ). replicate k zeroSlot) n in
+    let s : r .commands ≡ replicate mostCommands zeroSlot = all-same unused zeroSlot (r .commands) (λ x m. unused-zero x) (every-cons _ _ (h .1) .0)
+    ∙ ap (λ (k : ℕ). replicate k zeroSlot) n in
     let ev = eqb-true (r .event) 0 (a .0) in let st = eqb-true (r .state) 0 (b .0) in let lo = eqb-true (r .low) 0 (c .0) in
-    let hi = eqb-true (r .high) 0 (d .0) in let to = not-true (r .touched) (f .0) in let ne = eqb-true (r .next) 0 (g .0) in let us = eqb-true (r .used) 0 (h .0) in
+    let hi = eqb-true (r .high) 0 (d .0) in let to = not-true (r .touched) (f .0) in let ne = eqb-true (r .next) 0 (g .0) in
+    let us = eqb-true (r .used) 0 (h .0) in
     λ i. record { event = ev i; state = st i; low = lo i; high = hi i; touched = to i; next = ne i; commands = s i; used = us i }
 
 -- ---- a table
@@ -90,14 +93,16 @@ parts-of t e = let a = every-cons _ _ e in record { fit = leb-true _ _ (a .0); r
 pub table-laid : (t : Table) → TableTyped t → tableLaid t ≡ true → TableLaid t
 table-laid t y e =
     let p = parts-of t e in
-    let r = rest-same zeroRule mostRules (t .rules) (t .used) (y .room) (p .fit) (all-same blankRule zeroRule (drop (t .used) (t .rules)) (λ x m. blank-zero x (y .slots x (drop-in (t .used) (t .rules) x m))) (p .rest)) in
+    let r = rest-same zeroRule mostRules (t .rules) (t .used) (y .room) (p .fit)
+    (all-same blankRule zeroRule (drop (t .used) (t .rules)) (λ x m. blank-zero x (y .slots x (drop-in (t .used) (t .rules) x m))) (p .rest)) in
     let n = sym (laid-length mostRules zeroRule (t .rules) (t .used) (p .fit) r) in
     λ i. record { rules = r i; used = n i }
 
 -- The test of a table is that of its layout and of its rules.
 pub table-parts : (t : Table) → tableOk t ≡ true → (tableLaid t ≡ true) × (sound (rulesOf t) ≡ true)
 unfolding tableOk tableLaid
-table-parts t e = let a = every-cons _ _ e in let b = every-cons _ _ (a .1) in (every-make _ _ (a .0) (every-make _ _ (b .0) every-nil), every-cons _ _ (b .1) .0)
+table-parts t e = let a = every-cons _ _ e in let b = every-cons _ _ (a .1) in
+    (every-make _ _ (a .0) (every-make _ _ (b .0) every-nil), every-cons _ _ (b .1) .0)
 
 pub table-make : (t : Table) → tableLaid t ≡ true → sound (rulesOf t) ≡ true → tableOk t ≡ true
 unfolding tableOk tableLaid

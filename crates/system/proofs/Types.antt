@@ -47,7 +47,8 @@ rule-says r u g = search (needs, length-mapped)
 pub table-says : (t : Table) (u : List Val) → shadow (table.the-field .row .own (table.the-field .into t) u) → TableTyped t
 table-says t u g = record {
   room = search (needs, length-mapped);
-  slots = each-says (rule.the-field .row .own) (rule.the-field .into) (λ r. length (r .commands) ≡ mostCommands) rule-says (t .rules) (g .1 .1 .0 .0) (g .1 .1 .0 .1 .1);
+  slots = each-says (rule.the-field .row .own) (rule.the-field .into) (λ r. length (r .commands) ≡ mostCommands) rule-says (t .rules) (g .1 .1 .0 .0)
+      (g .1 .1 .0 .1 .1);
 }
 
 actor-says : (a : Actor) (u : List Val) → shadow (actor.the-field .row .own (actor.the-field .into a) u) → Typed a

@@ -36,7 +36,8 @@ count-seen count tables n h = length-map (take count tables) rulesOf ∙ length-
 module _ (kind count : ℕ) (tables : List Table) (g : Given) where
   -- The tests, as they are asked.
   abbrev pub tests : List Bool
-  tests = leb 1 count ∷ leb count mostActors ∷ leb kind 2 ∷ all tableOk (take count tables) ∷ leb (g .used) mostEntries ∷ all (sourceKnown count) (givenView g) ∷ []
+  tests = leb 1 count ∷ leb count mostActors ∷ leb kind 2 ∷ all tableOk (take count tables) ∷ leb (g .used) mostEntries
+      ∷ all (sourceKnown count) (givenView g) ∷ []
 
   pub record Fine : Type 0 where
     pub some : 1 ≤ count
@@ -48,11 +49,21 @@ module _ (kind count : ℕ) (tables : List Table) (g : Given) where
 
   of-tests : every tests ≡ true → Fine
   of-tests e =
-      let a = every-cons _ _ e in let b = every-cons _ _ (a .1) in let c = every-cons _ _ (b .1) in let d = every-cons _ _ (c .1) in let f = every-cons _ _ (d .1) in
-      record { some = leb-true _ _ (a .0); few = leb-true _ _ (b .0); kinds = leb-true _ _ (c .0); tables-ok = d .0; held = leb-true _ _ (f .0); sources = every-cons _ _ (f .1) .0 }
+      let a = every-cons _ _ e in let b = every-cons _ _ (a .1) in let c = every-cons _ _ (b .1) in let d = every-cons _ _ (c .1) in
+      let f = every-cons _ _ (d .1) in
+      record {
+        some = leb-true _ _ (a .0);
+        few = leb-true _ _ (b .0);
+        kinds = leb-true _ _ (c .0);
+        tables-ok = d .0;
+        held = leb-true _ _ (f .0);
+        sources =
+            every-cons _ _ (f .1) .0;
+      }
 
   to-tests : Fine → every tests ≡ true
-  to-tests f = every-make _ _ (le-leb _ _ (f .some)) (every-make _ _ (le-leb _ _ (f .few)) (every-make _ _ (le-leb _ _ (f .kinds)) (every-make _ _ (f .tables-ok) (every-make _ _ (le-leb _ _ (f .held)) (every-make _ _ (f .sources) every-nil)))))
+  to-tests f = every-make _ _ (le-leb _ _ (f .some)) (every-make _ _ (le-leb _ _ (f .few))
+      (every-make _ _ (le-leb _ _ (f .kinds)) (every-make _ _ (f .tables-ok) (every-make _ _ (le-leb _ _ (f .held)) (every-make _ _ (f .sources) every-nil)))))
 
   module _ (room : length tables ≡ mostActors) where
     pub fine-of : startFine kind count tables g ≡ true → Fine
@@ -83,9 +94,11 @@ module _ (kind count : ℕ) (tables : List Table) (g : Given) where
     of-fine f =
         let n = sym (count-seen count tables room (f .few)) in
         and-make _ _
-        (every-make _ _ (le-leb _ _ (f .few)) (every-make _ _ (all-make _ _ (λ t m. table-parts t (all-in _ _ (f .tables-ok) t m) .0)) (every-make _ _ (le-leb _ _ (f .held)) every-nil)))
+        (every-make _ _ (le-leb _ _ (f .few)) (every-make _ _ (all-make _ _ (λ t m. table-parts t (all-in _ _ (f .tables-ok) t m) .0))
+        (every-make _ _ (le-leb _ _ (f .held)) every-nil)))
         (subst (λ (k : ℕ). (leb 1 k && leb k mostActors && leb kind 2 && all sound (tablesView count tables) && all (sourceKnown k) (givenView g)) ≡ true) n
-        (and-make _ _ (and-make _ _ (and-make _ _ (and-make _ _ (le-leb _ _ (f .some)) (le-leb _ _ (f .few))) (le-leb _ _ (f .kinds))) (tables-sound (take count tables) (f .tables-ok))) (f .sources)))
+        (and-make _ _ (and-make _ _ (and-make _ _ (and-make _ _ (le-leb _ _ (f .some)) (le-leb _ _ (f .few))) (le-leb _ _ (f .kinds)))
+        (tables-sound (take count tables) (f .tables-ok))) (f .sources)))
 
     pub fine-tests : startFine kind count tables g ≡ every tests
     fine-tests = same-true _ _ (λ e. to-tests (fine-of e)) (λ e. of-fine (of-tests e))

@@ -21,7 +21,9 @@ pub const SIZE: usize = 10409;
 
 // How many pieces stand for the network with the count of actors, for a durable part, and for an actor.
 const NETWORK_PIECES: usize = MOST_ENTRIES + 2;
+
 const DURABLE_PIECES: usize = MOST_PENDING + MOST_ACTORS + 3;
+
 const ACTOR_PIECES: usize = 2 * DURABLE_PIECES + 2;
 
 // Some numbers, and in how many bytes each is written.

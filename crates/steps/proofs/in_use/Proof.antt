@@ -1,3 +1,5 @@
+-- `in_use`: a list of so many places has no more to take, so that a count beyond them takes what their number takes.
+-- Assumes nothing.
 use native.Mathlib.Omega.{arith}
 use mathlib.Core.Path.{sym, _∙_}
 use lib.Seq.{take-all}

@@ -1,3 +1,5 @@
+-- `only_sets`: a list of commands has one command exactly where its count is 1, and that one stands first.
+-- Assumes nothing.
 use mathlib.Core.Path.{_≡_, sym, ap, _∙_}
 use lib.ListN.{length}
 use Rattle.types.specs.Capacities.{mostTold}

@@ -70,7 +70,8 @@ returns-6 c =
     let x : a .crashed ≡ false = c .before .before .before .before .before .before .before .before .before .if1 .left in
     let y : a .stored .some ≡ false = c .before .before .before .before .if4 .left in
     let z = sym (c .before .before .before .zero-durable .ensures) ∙ not-false _ (c .before .before .if5 .left) in
-    let n : a .timers .0 ≡ 0 = c .before .before .before .before .before .before .before .if2 .left in let m : a .link .state ≡ 0 = c .before .before .before .before .before .if3 .left in
+    let n : a .timers .0 ≡ 0 = c .before .before .before .before .before .before .before .if2 .left in
+    let m : a .link .state ≡ 0 = c .before .before .before .before .before .if3 .left in
     tells (blankActor a) (c .zero-durable2 .result) (blank-zero a (record { pending = p; taken = t; stored-pending = q; stored-taken = u; word = w }))
     (rw (x, eq-eqb (a .timers .0) 0 n, eq-eqb (a .link .state) 0 m, y, z) (c .zero-durable2 .ensures ∙ sym (and-true _)))
 

@@ -37,7 +37,8 @@ returns : tie.Need-returns Inv-loop μ-loop
 returns c =
     let a = c .before .before .before .before .before .args in let l = c .before .before .before .before .loop in
     let n : length (a .t1) ≡ mostActors = search (needs, length-mapped) in
-    walk-fails (actorFine (a .count)) (a .t1) (a .count) no-actor (omega arith) (l .i) _ (search needs) (sym (c .before .actor-ok .ensures .0) ∙ not-true (c .before .actor-ok .result) (c .if1 .taken)) (l .inv .1)
+    walk-fails (actorFine (a .count)) (a .t1) (a .count) no-actor (omega arith) (l .i) _ (search needs)
+    (sym (c .before .actor-ok .ensures .0) ∙ not-true (c .before .actor-ok .result) (c .if1 .taken)) (l .inv .1)
 
 add-i : tie.Need-add-i Inv-loop μ-loop
 add-i c = search needs
@@ -48,8 +49,11 @@ loop-less c = search needs
 loop-again : tie.Need-loop-again Inv-loop μ-loop
 loop-again c =
     let a = c .before .before .before .before .before .args in let l = c .before .before .before .before .loop in
-    let n : length (a .t1) ≡ mostActors = search (needs, length-mapped) in
-    (search needs, walk-on (actorFine (a .count)) (a .t1) (a .count) no-actor (omega arith) (l .i) _ (search needs) (sym (c .before .actor-ok .ensures .0) ∙ not-false (c .before .actor-ok .result) (c .if1 .left)) (l .inv .1))
+    let n : length (a .t1) ≡ mostActors = search (needs, length-mapped) in (
+      search needs,
+      walk-on (actorFine (a .count)) (a .t1) (a .count) no-actor (omega arith) (l .i) _ (search needs)
+          (sym (c .before .actor-ok .ensures .0) ∙ not-false (c .before .actor-ok .result) (c .if1 .left)) (l .inv .1),
+    )
 
 returns-2 : tie.Need-returns-2 Inv-loop μ-loop
 returns-2 c =

@@ -41,7 +41,8 @@ returns c =
     let l = c .before .before .before .before .before .loop in
     let b = l .inv .1 in
     let u = s .pre .1 in
-    fill-stops (s .args .n) (s .args .t2) (s .args .used) (l .i) (l .net) (l .inv .2) (c .before .before .before .before .loop-test .taken) (omega arith) (zeroEntry .envelope)
+    fill-stops (s .args .n) (s .args .t2) (s .args .used) (l .i) (l .net) (l .inv .2) (c .before .before .before .before .loop-test .taken) (omega arith)
+    (zeroEntry .envelope)
     (c .before .before .send .result) (c .before .before .send .ensures) (sym (c .before .is-done .ensures) ∙ not-true _ (c .if1 .taken))
 
 add-i : tie.Need-add-i Inv-loop μ-loop
@@ -58,8 +59,10 @@ loop-again c =
     let u = s .pre .1 in (
       search needs,
       b,
-      rw add-one (fill-goes (s .args .n) (s .args .t2) (s .args .used) (l .i) (l .net) (l .inv .2) (c .before .before .before .before .before .loop-test .taken) (omega arith) (zeroEntry .envelope)
-          (c .before .before .before .send .result) (c .before .before .before .send .ensures) (sym (c .before .before .is-done .ensures) ∙ not-false _ (c .before .if1 .left))),
+      rw add-one (fill-goes (s .args .n) (s .args .t2) (s .args .used) (l .i) (l .net) (l .inv .2)
+          (c .before .before .before .before .before .loop-test .taken) (omega arith) (zeroEntry .envelope)
+          (c .before .before .before .send .result) (c .before .before .before .send .ensures)
+          (sym (c .before .before .is-done .ensures) ∙ not-false _ (c .before .if1 .left))),
     )
 
 returns-2 : tie.Need-returns-2 Inv-loop μ-loop

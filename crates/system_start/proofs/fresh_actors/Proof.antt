@@ -15,7 +15,8 @@ use Rattle.system_start.proofs.fresh_actors.Statement.{statement}
 use Rattle.system_start.proofs.fresh_actors.Tie as tie
 
 abbrev Inv-loop : tie.InvT-loop
-Inv-loop count fresh actors₀ i₀ actors i = (i ≤ count) × (length actors ≡ mostActors) × (fresh ≡ actorAs (unstarted [])) × (actors ≡ pad mostActors zeroActor (replicate i (actorAs (unstarted []))))
+Inv-loop count fresh actors₀ i₀ actors i = (i ≤ count) × (length actors ≡ mostActors) × (fresh ≡ actorAs (unstarted []))
+    × (actors ≡ pad mostActors zeroActor (replicate i (actorAs (unstarted []))))
 
 abbrev μ-loop : tie.MeasureT-loop
 μ-loop count fresh actors₀ i₀ actors i = count - i
