@@ -80,11 +80,14 @@ fn number(word: u64, k: usize) -> Number {
 // ---- the numbers of a way
 // A digit goes behind the value, and a letter begins a new one.
 fn next_value(value: u8, b: u8) -> u8 {
+    if b'A' <= b {
+        return 0;
+    }
     if b < b'0' {
         return value;
     }
     if b'9' < b {
-        return 0;
+        return value;
     }
     if 24 < value {
         return value;
@@ -106,9 +109,10 @@ fn next_place(place: usize, b: u8) -> usize
     ((b - b'a') % 24) as usize
 }
 
+// Each byte writes the value at its place. The first place, a, has 2 until a letter comes.
 fn words(way: &[u8]) -> [u64; 6] {
     let mut words = [2, 0, 0, 1099511627776, 1, 0];
-    let mut value = 0;
+    let mut value = 2;
     let mut place = 0;
     let mut i = 0;
     while i < way.len() {
