@@ -8,9 +8,26 @@ use system_step::step;
 use test_ill_formed_ways::made;
 use types::Action;
 use types::Envelope;
+use types::Id;
+use types::Message;
+use types::Number;
+use types::Payload;
 
-fn delivered(s: System, e: Envelope) -> Answered {
-    step(s, Action::Deliver(e))
+// The message with this number, from actor 1 to actor 0.
+fn delivered(s: System, number: u64) -> Answered {
+    step(
+        s,
+        Action::Deliver(Envelope {
+            src: Id(1),
+            dst: Id(0),
+            msg: Message::Deliver(Number(number), Payload(0)),
+        }),
+    )
+}
+
+fn next_of(s: System) -> u64 {
+    let a = s.actors[0];
+    a.link.durable.next.0
 }
 
 fn tell(what: &[u8], n: u64) {
@@ -20,19 +37,15 @@ fn tell(what: &[u8], n: u64) {
 }
 
 fn main() {
-    let s = made(b"c1 d1 e1 f1 g2 h1 i2 l1 m2 p9 q1 s1 t2 v1 x9 I202");
-    let n = s.network;
-    let x = n.entries[0];
-    let y = n.entries[1];
-    let e = x.envelope;
-    let f = y.envelope;
-    let first = delivered(s, e);
-    let after = first.system;
-    let a = after.actors[0];
-    let second = delivered(after, f);
+    let first = delivered(
+        made(b"c1 d1 e1 f1 g2 h1 i2 l1 m2 p9 q1 s1 t2 v1 x9 I202"),
+        1,
+    );
     let done = first.answer;
+    let after = first.system;
+    let second = delivered(after, 2);
     let refused = second.answer;
     tell(b"number 2^64 - 2: ", number_of(done));
-    tell(b"next number: ", a.link.durable.next.0);
+    tell(b"next number: ", next_of(after));
     tell(b"the next: ", number_of(refused));
 }
