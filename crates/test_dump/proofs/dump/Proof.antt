@@ -2,23 +2,28 @@
 -- Assumes nothing.
 use borrow.Author.Needs.{needs}
 use native.Mathlib.Omega.{arith}
-use Prim.Native.Nat.{_≤_, _-_}
+use Prim.Native.Nat.{ℕ, _≤_, _+_, _-_, _*_}
 use mathlib.Core.Path.{_≡_, refl}
 use lib.ListN.{length}
+use Rattle.types.specs.Capacities.{mostEntries, mostPending, mostActors}
 use Rattle.test_dump.proofs.dump.Statement.{statement}
 use Rattle.test_dump.proofs.dump.Tie as tie
 
+-- Those of an actor.
+abbrev pieces : ℕ
+pieces = 2 * (mostPending + mostActors + 3) + 2
+
 abbrev Inv-loop : tie.InvT-loop
-Inv-loop out₀ at count network actors next₀ k₀ out next k = (k ≤ 130) × (length out ≡ length out₀)
+Inv-loop out₀ at count network actors next₀ k₀ out next k = (k ≤ mostEntries + 2) × (length out ≡ length out₀)
 
 abbrev μ-loop : tie.MeasureT-loop
-μ-loop out₀ at count network actors next₀ k₀ out next k = 130 - k
+μ-loop out₀ at count network actors next₀ k₀ out next k = mostEntries + 2 - k
 
 abbrev Inv-loop2 : tie.InvT-loop2
-Inv-loop2 out₀ at count actors next₀ k₀ out next k = (k ≤ 704) × (length out ≡ length out₀)
+Inv-loop2 out₀ at count actors next₀ k₀ out next k = (k ≤ mostActors * pieces) × (length out ≡ length out₀)
 
 abbrev μ-loop2 : tie.MeasureT-loop2
-μ-loop2 out₀ at count actors next₀ k₀ out next k = 704 - k
+μ-loop2 out₀ at count actors next₀ k₀ out next k = mostActors * pieces - k
 
 loop-holds : tie.Need-loop-holds Inv-loop μ-loop Inv-loop2 μ-loop2
 loop-holds c = (search needs, refl)
