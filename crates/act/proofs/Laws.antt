@@ -53,16 +53,17 @@ alive false d e = refl
 pub no-and : (b d : Bool) → b ≡ false → (b && d) ≡ false
 no-and b d e = rw e
 
-pub late : (b : Bool) (t : ℕ) → 31 < t → (b && leb t network) ≡ false
-late true t h = lt-leb t 31 h
+pub late : (b : Bool) (t : ℕ) → network < t → (b && leb t network) ≡ false
+late true t h = lt-leb t network h
 late false t h = refl
 
-pub and-both : (b : Bool) (t : ℕ) → b ≡ true → t ≤ 31 → (b && leb t network) ≡ true
-and-both b t e h = rw (e, le-leb t 31 h)
+pub and-both : (b : Bool) (t : ℕ) → b ≡ true → t ≤ network → (b && leb t network) ≡ true
+and-both b t e h = rw (e, le-leb t network h)
 
 -- ---- the three tests of a Deliver
 abbrev pub barred : Bool → Bool → Bool → Answer → Refusal
-barred source heard there found = firstOf (choose source Nothing (Because OutOfRange)) (firstOf (choose heard Nothing (Because Ignored)) (choose there Nothing (Because found)))
+barred source heard there found = firstOf (choose source Nothing (Because OutOfRange))
+    (firstOf (choose heard Nothing (Because Ignored)) (choose there Nothing (Because found)))
 
 pub record Open (source heard there : Bool) : Type 0 where
   pub source-known : source ≡ true
@@ -103,9 +104,11 @@ module _ (n : Network) (a : Actor) where
 
     pub dropped : (o : Outcome Net) (s : Sent) → s ≡ sentOf n o
         → _≡_ {A = Touched} (record { answer = s .answer; network = s .network; actor = a }) (touchedOf n a (mapped (λ x. netIn x (partView rs n a)) o))
-    dropped o s e = (λ j. record { answer = e j .answer; network = e j .network; actor = a }) ∙ sym (sent-touched rs n a ready laid o) ∙ ap (touchedOf n a) (as-bind (partView rs n a) o)
+    dropped o s e = (λ j. record { answer = e j .answer; network = e j .network; actor = a }) ∙ sym (sent-touched rs n a ready laid o)
+        ∙ ap (touchedOf n a) (as-bind (partView rs n a) o)
 
     -- ---- a Crash leaves the network
-    pub crashed : (b : Actor) → b ≡ actorAs (crashPart (partView rs n a) .actor) → _≡_ {A = Touched} (record { answer = Done; network = n; actor = b }) (touchedOf n a (done (crashPart (partView rs n a))))
+    pub crashed : (b : Actor) → b ≡ actorAs (crashPart (partView rs n a) .actor)
+        → _≡_ {A = Touched} (record { answer = Done; network = n; actor = b }) (touchedOf n a (done (crashPart (partView rs n a))))
     unfolding crashPart actorIn answerOf
     crashed b e = let w = sym (same-net rs n a ready laid) in λ j. record { answer = Done; network = w j; actor = e j }

@@ -12,6 +12,7 @@ use sys_actor::Actor;
 use types::Action;
 use types::Envelope;
 use types::Id;
+use types::NETWORK;
 ghost use mathlib.Core.Path.{_≡_};
 ghost use mathlib.Core.Bool.{not, _&&_};
 ghost use lib.Dec.{ltb};
@@ -119,7 +120,7 @@ fn timeout(i: Id, timer: u8, count: usize, n: Network, a: Actor, t: Table) -> To
     if !known(count, i) {
         return refused(Answer::OutOfRange, n, a);
     }
-    if 31 < timer {
+    if NETWORK < timer {
         return refused(Answer::OutOfRange, n, a);
     }
     steps::timeout(i, timer, n, a, t)

@@ -8,6 +8,7 @@ use lib.Seq.{slice-cons, slice-empty}
 use mathlib.Core.Path.{_≡_, refl, sym, ap, ap₂, _∙_, subst}
 use mathlib.Core.Bool.{Bool, true, false, not, _&&_, true≢false, false≢true}
 use mathlib.Core.List.{List, [], _∷_, map}
+use Rattle.types.specs.Capacities.{mostTold}
 use Rattle.lists.proofs.Members.{not-true}
 use Rattle.types.specs.declared.Id.{Id}
 use Rattle.answers.specs.declared.Answer.{Answer}
@@ -88,7 +89,8 @@ pub record Told (l : Link) (m : Outcome rules.Did) (d : Did) : Type 0 where
   pub touched : d .touched ≡ did .touched
   pub commands : toldBy d ≡ did .commands
 
-told : (l : Link) (m : Outcome rules.Did) (d : Did) → d ≡ didAs l m → Among refusal m → Holds (λ h. Alike (h .link .durable) (h .commands)) m → isDone (d .answer) ≡ true → Told l m d
+told : (l : Link) (m : Outcome rules.Did) (d : Did) → d ≡ didAs l m → Among refusal m → Holds (λ h. Alike (h .link .durable) (h .commands)) m
+    → isDone (d .answer) ≡ true → Told l m d
 told l m d e r a h =
     let z = done-of m r (sym (ap isDone (ap (λ (x : Did). x .answer) e ∙ did-answer l m)) ∙ h) in
     let f : d ≡ didAs l (done (z .0)) = e ∙ ap (didAs l) (z .1) in
@@ -102,9 +104,11 @@ told l m d e r a h =
     })
 
 -- Then the commands run as the rules say.
-finish-same : (c : Caps) (i : Id) (p : Part) (d : Did) (h : rules.Did) → linkView (d .link) ≡ h .link → toldBy d ≡ h .commands → finishPart c i p (didView d) ≡ finishPart c i p h
+finish-same : (c : Caps) (i : Id) (p : Part) (d : Did) (h : rules.Did) → linkView (d .link) ≡ h .link → toldBy d ≡ h .commands
+    → finishPart c i p (didView d) ≡ finishPart c i p h
 unfolding finishPart actorIn
-finish-same c i p d h e f = ap₂ (λ (l : rules.Link) (cs : List rules.Command). runPart (c .room) i cs (record { net = p .net; actor = withLink l (p .actor) })) e f
+finish-same c i p d h e f = ap₂ (λ (l : rules.Link) (cs : List rules.Command). runPart (c .room) i cs
+    (record { net = p .net; actor = withLink l (p .actor) })) e f
 
 -- ---- Deliver
 module _ (rs : List Rule) (n : Network) (a : Struct) (e : Envelope) (s : Sent) (told-sent : s ≡ sentOf n (onDeliver e (netView n))) where
@@ -114,7 +118,8 @@ module _ (rs : List Rule) (n : Network) (a : Struct) (e : Envelope) (s : Sent) (
   answered : s .answer ≡ answerIn (onDeliver e (netView n))
   answered = ap (λ (x : Sent). x .answer) told-sent ∙ sent-answer n (onDeliver e (netView n))
 
-  pub deliver-absent : isDone (s .answer) ≡ false → _≡_ {A = Touched} (record { answer = s .answer; network = n; actor = a }) (touchedOf n a (deliverPart base e (partView rs n a)))
+  pub deliver-absent : isDone (s .answer) ≡ false → _≡_ {A = Touched} (record { answer = s .answer; network = n; actor = a })
+      (touchedOf n a (deliverPart base e (partView rs n a)))
   unfolding deliverPart
   deliver-absent h = first-refused n a (onDeliver e (netView n)) _ (s .answer) answered h
 
@@ -128,17 +133,21 @@ module _ (rs : List Rule) (n : Network) (a : Struct) (e : Envelope) (s : Sent) (
   goes h = rw (found h .1)
 
   module _ (d : Did) (told-did : d ≡ didAs (a .link) msg) (h : isDone (s .answer) ≡ true) where
-    pub deliver-refused : isDone (d .answer) ≡ false → _≡_ {A = Touched} (record { answer = d .answer; network = n; actor = a }) (touchedOf n a (deliverPart base e (partView rs n a)))
-    deliver-refused k = first-refused n a msg _ (d .answer) (ap (λ (x : Did). x .answer) told-did ∙ did-answer (a .link) msg) k ∙ sym (ap (touchedOf n a) (goes h))
+    pub deliver-refused : isDone (d .answer) ≡ false → _≡_ {A = Touched} (record { answer = d .answer; network = n; actor = a })
+        (touchedOf n a (deliverPart base e (partView rs n a)))
+    deliver-refused k = first-refused n a msg _ (d .answer) (ap (λ (x : Did). x .answer) told-did ∙ did-answer (a .link) msg) k
+        ∙ sym (ap (touchedOf n a) (goes h))
 
     pub deliver-told : isDone (d .answer) ≡ true → Told (a .link) msg d
     unfolding answerOf
-    deliver-told k = told (a .link) msg d told-did (on-msg refusal refl refl refl (base .limits) (e .dst) rs _ (e .src) (e .msg)) (msg-tells (base .limits) (e .dst) rs _ (e .src) (e .msg)) k
+    deliver-told k = told (a .link) msg d told-did (on-msg refusal refl refl refl (base .limits) (e .dst) rs _ (e .src) (e .msg))
+        (msg-tells (base .limits) (e .dst) rs _ (e .src) (e .msg)) k
 
     pub deliver-ready-after : NetReady n → NetReady (s .network)
     deliver-ready-after r = subst (λ (x : Sent). NetReady (x .network)) (sym told-sent) (deliver-ready n r e)
 
-    pub deliver-goes : NetReady n → (k : isDone (d .answer) ≡ true) (y : Touched) → y ≡ touchedOf (s .network) a (finishPart base (e .dst) (partView rs (s .network) a) (didView d))
+    pub deliver-goes : NetReady n → (k : isDone (d .answer) ≡ true) (y : Touched)
+        → y ≡ touchedOf (s .network) a (finishPart base (e .dst) (partView rs (s .network) a) (didView d))
         → backTo n a y ≡ touchedOf n a (deliverPart base e (partView rs n a))
     unfolding bind netIn answerOf
     deliver-goes r k y f =
@@ -149,7 +158,8 @@ module _ (rs : List Rule) (n : Network) (a : Struct) (e : Envelope) (s : Sent) (
         let p : partView rs (s .network) a ≡ netIn x (partView rs n a) = λ i. record { net = v i; actor = actorView rs a } in
         ap (backTo n a) (f ∙ ap (λ (q : Part). touchedOf (s .network) a (finishPart base (e .dst) q (didView d))) p)
         ∙ back-touched n (s .network) a a _ (on-finish refusal refl refl refl base (e .dst) _ _)
-        ∙ ap (touchedOf n a) (finish-same base (e .dst) (netIn x (partView rs n a)) d (z .did) (z .link) (z .commands) ∙ sym (ap (λ (o : Outcome rules.Did). bind o (finishPart base (e .dst) (netIn x (partView rs n a)))) (z .is)) ∙ sym (goes h))
+        ∙ ap (touchedOf n a) (finish-same base (e .dst) (netIn x (partView rs n a)) d (z .did) (z .link) (z .commands)
+        ∙ sym (ap (λ (o : Outcome rules.Did). bind o (finishPart base (e .dst) (netIn x (partView rs n a)))) (z .is)) ∙ sym (goes h))
 
 -- ---- Start on what is stored
 module _ (rs : List Rule) (i : Id) (n : Network) (a : Struct) (l : Link) (d : Did) where
@@ -157,7 +167,8 @@ module _ (rs : List Rule) (i : Id) (n : Network) (a : Struct) (l : Link) (d : Di
   begun = rules.onStart (base .limits) i rs (storedView (a .stored))
 
   module _ (told-did : d ≡ didAs l begun) where
-    pub wake-refused : isDone (d .answer) ≡ false → _≡_ {A = Touched} (record { answer = d .answer; network = n; actor = a }) (touchedOf n a (wakePart base i (partView rs n a)))
+    pub wake-refused : isDone (d .answer) ≡ false → _≡_ {A = Touched} (record { answer = d .answer; network = n; actor = a })
+        (touchedOf n a (wakePart base i (partView rs n a)))
     unfolding wakePart
     wake-refused k = first-refused n a begun _ (d .answer) (ap (λ (x : Did). x .answer) told-did ∙ did-answer l begun) k
 
@@ -165,11 +176,13 @@ module _ (rs : List Rule) (i : Id) (n : Network) (a : Struct) (l : Link) (d : Di
     unfolding answerOf
     wake-told k = told l begun d told-did (on-started refusal refl refl refl (base .limits) i rs _) (start-tells (base .limits) i rs _) k
 
-    pub wake-goes : isDone (d .answer) ≡ true → touchedOf n a (finishPart base i (partView rs n a) (didView d)) ≡ touchedOf n a (wakePart base i (partView rs n a))
+    pub wake-goes : isDone (d .answer) ≡ true → touchedOf n a (finishPart base i (partView rs n a) (didView d)) ≡ touchedOf n a
+        (wakePart base i (partView rs n a))
     unfolding wakePart bind
     wake-goes k =
         let z = wake-told k in
-        ap (touchedOf n a) (finish-same base i (partView rs n a) d (z .did) (z .link) (z .commands) ∙ sym (ap (λ (o : Outcome rules.Did). bind o (finishPart base i (partView rs n a))) (z .is)))
+        ap (touchedOf n a) (finish-same base i (partView rs n a) d (z .did) (z .link) (z .commands)
+        ∙ sym (ap (λ (o : Outcome rules.Did). bind o (finishPart base i (partView rs n a))) (z .is)))
 
 -- ---- Recover
 abbrev pub markIn : Struct → Bool → Timers → Struct
@@ -184,11 +197,13 @@ unfolding crashPart actorIn withMark
 crashed rs n a h = λ i. record { crashed = true; timers = timersOf noTimers; link = h i .link; stored = h i .stored }
 
 module _ (rs : List Rule) (i : Id) (n : Network) (a : Struct) where
-  pub recover-live : a .crashed ≡ false → _≡_ {A = Touched} (record { answer = Live; network = n; actor = a }) (touchedOf n a (recoverPart base i (partView rs n a)))
+  pub recover-live : a .crashed ≡ false → _≡_ {A = Touched} (record { answer = Live; network = n; actor = a })
+      (touchedOf n a (recoverPart base i (partView rs n a)))
   unfolding recoverPart guard answerOf
   recover-live e = rw e
 
-  pub recover-wakes : (b : Struct) → b ≡ markIn a false (a .timers) → a .crashed ≡ true → backTo n a (touchedOf n b (wakePart base i (partView rs n b))) ≡ touchedOf n a (recoverPart base i (partView rs n a))
+  pub recover-wakes : (b : Struct) → b ≡ markIn a false (a .timers) → a .crashed ≡ true
+      → backTo n a (touchedOf n b (wakePart base i (partView rs n b))) ≡ touchedOf n a (recoverPart base i (partView rs n a))
   unfolding recoverPart guard answerOf actorIn withMark
   recover-wakes b f e =
       ap (λ (x : Struct). backTo n a (touchedOf n x (wakePart base i (partView rs n x)))) f
@@ -206,14 +221,17 @@ only-one t (rules.Cancel u ∷ l) h = refl
 only-one t (rules.Send r m ∷ l) h = refl
 only-one t (rules.Save d ∷ l) h = refl
 
-pub told-length : (d : rules.Durable) (cs : Commands) → length (cs .list) ≡ 33 → (cs .used ≡ 1 → ⊥) → length (map (commandView d) (commandsIn cs)) ≡ 1 → ⊥
+pub told-length : (d : rules.Durable) (cs : Commands) → length (cs .list) ≡ mostTold → (cs .used ≡ 1 → ⊥) → length (map (commandView d) (commandsIn cs)) ≡ 1 → ⊥
 told-length d cs h k e =
-    let m : length (map (commandView d) (commandsIn cs)) ≡ length (take (cs .used) (cs .list)) = length-map (commandsIn cs) (commandView d) ∙ length-map (take (cs .used) (cs .list)) (λ (s : CommandSlot). s .command) in
+    let m : length (map (commandView d) (commandsIn cs)) ≡ length (take (cs .used) (cs .list)) = length-map (commandsIn cs) (commandView d)
+    ∙ length-map (take (cs .used) (cs .list)) (λ (s : CommandSlot). s .command) in
     k (omega (arith, m, length-take (cs .used) (cs .list)))
 
-pub told-first : (d : rules.Durable) (cs : Commands) (z : CommandSlot) → length (cs .list) ≡ 33 → cs .used ≡ 1 → map (commandView d) (commandsIn cs) ≡ commandView d (getD (cs .list) 0 z .command) ∷ []
+pub told-first : (d : rules.Durable) (cs : Commands) (z : CommandSlot) → length (cs .list) ≡ mostTold → cs .used ≡ 1
+    → map (commandView d) (commandsIn cs) ≡ commandView d (getD (cs .list) 0 z .command) ∷ []
 told-first d cs z h k =
-    rw k (ap (λ (l : List CommandSlot). map (commandView d) (map (λ (s : CommandSlot). s .command) l)) (slice-cons 0 1 (cs .list) z (lit< tt) (omega arith) ∙ ap (λ (l : List CommandSlot). getD (cs .list) 0 z ∷ l) (slice-empty 1 (cs .list))))
+    rw k (ap (λ (l : List CommandSlot). map (commandView d) (map (λ (s : CommandSlot). s .command) l))
+    (slice-cons 0 1 (cs .list) z (lit< tt) (omega arith) ∙ ap (λ (l : List CommandSlot). getD (cs .list) 0 z ∷ l) (slice-empty 1 (cs .list))))
 
 -- The actor with a timer cancelled is laid out.
 pub timers-laid : (a : Struct) (t : ℕ) (b : Struct) → ActorLaid a → b ≡ markIn a (a .crashed) (timersOf (cancelTimer t (listed (a .timers .0)))) → ActorLaid b
@@ -234,7 +252,8 @@ module _ (rs : List Rule) (i : Id) (t : ℕ) (n : Network) (a : Struct) where
   abbrev run-out : Outcome rules.Did
   run-out = rules.onTimeout (base .limits) i rs (linkView (a .link)) t
 
-  pub timeout-unset : isSet t (listed (a .timers .0)) ≡ false → _≡_ {A = Touched} (record { answer = NotSet; network = n; actor = a }) (touchedOf n a (timeoutPart base i t (partView rs n a)))
+  pub timeout-unset : isSet t (listed (a .timers .0)) ≡ false → _≡_ {A = Touched} (record { answer = NotSet; network = n; actor = a })
+      (touchedOf n a (timeoutPart base i t (partView rs n a)))
   unfolding timeoutPart guard answerOf
   timeout-unset e = rw e
 
@@ -243,8 +262,10 @@ module _ (rs : List Rule) (i : Id) (t : ℕ) (n : Network) (a : Struct) where
     unfolding timeoutPart guard
     rings = rw set
 
-    pub timeout-refused : isDone (d .answer) ≡ false → _≡_ {A = Touched} (record { answer = d .answer; network = n; actor = a }) (touchedOf n a (timeoutPart base i t (partView rs n a)))
-    timeout-refused k = first-refused n a run-out _ (d .answer) (ap (λ (x : Did). x .answer) told-did ∙ did-answer (a .link) run-out) k ∙ sym (ap (touchedOf n a) rings)
+    pub timeout-refused : isDone (d .answer) ≡ false → _≡_ {A = Touched} (record { answer = d .answer; network = n; actor = a })
+        (touchedOf n a (timeoutPart base i t (partView rs n a)))
+    timeout-refused k = first-refused n a run-out _ (d .answer) (ap (λ (x : Did). x .answer) told-did ∙ did-answer (a .link) run-out) k
+        ∙ sym (ap (touchedOf n a) rings)
 
     pub timeout-told : isDone (d .answer) ≡ true → Told (a .link) run-out d
     unfolding answerOf
@@ -258,18 +279,32 @@ module _ (rs : List Rule) (i : Id) (t : ℕ) (n : Network) (a : Struct) where
       unfolding bind
       here = rings ∙ ap (λ (o : Outcome rules.Did). bind o (timedPart base i t (partView rs n a))) (timeout-told k .is)
 
-      pub timeout-ignored : (not (d .touched) && onlySets t (toldBy d)) ≡ true → _≡_ {A = Touched} (record { answer = Ignored; network = n; actor = a }) (touchedOf n a (timeoutPart base i t (partView rs n a)))
+      pub timeout-ignored : (not (d .touched) && onlySets t (toldBy d)) ≡ true
+          → _≡_ {A = Touched} (record { answer = Ignored; network = n; actor = a }) (touchedOf n a (timeoutPart base i t (partView rs n a)))
       unfolding answerOf
       timeout-ignored e = sym (ap (touchedOf n a) (here ∙ timed-ignored i t (partView rs n a) (timeout-told k .did) (sym renewed ∙ e)))
 
-      pub timeout-goes : (b : Struct) → b ≡ markIn a (a .crashed) (timersOf (cancelTimer t (listed (a .timers .0)))) → (not (d .touched) && onlySets t (toldBy d)) ≡ false
-          → (y : Touched) → y ≡ touchedOf n b (finishPart base i (partView rs n b) (didView d)) → backTo n a y ≡ touchedOf n a (timeoutPart base i t (partView rs n a))
+      pub timeout-goes : (b : Struct) → b ≡ markIn a (a .crashed) (timersOf (cancelTimer t (listed (a .timers .0))))
+          → (not (d .touched) && onlySets t (toldBy d)) ≡ false
+          → (y : Touched) → y ≡ touchedOf n b (finishPart base i (partView rs n b) (didView d))
+          → backTo n a y ≡ touchedOf n a (timeoutPart base i t (partView rs n a))
       unfolding actorIn withTimers answerOf
       timeout-goes b f e y g =
           let z = timeout-told k in
           let v = listed-timers-of (cancelTimer t (listed (a .timers .0))) (cancel-timers t _ (listed-timers (a .timers .0))) in
-          let w : partView rs n (markIn a (a .crashed) (timersOf (cancelTimer t (listed (a .timers .0))))) ≡ actorIn (withTimers (cancelTimer t (listed (a .timers .0))) (actorView rs a)) (partView rs n a) =
-          λ j. record { net = netView n; actor = record { rules = rs; crashed = a .crashed; timers = v j; link = linkView (a .link); storage = storedView (a .stored) } } in
+          let w : partView rs n (markIn a (a .crashed) (timersOf (cancelTimer t (listed (a .timers .0))))) ≡ actorIn
+          (withTimers (cancelTimer t (listed (a .timers .0))) (actorView rs a)) (partView rs n a) =
+          λ j. record {
+            net = netView n;
+            actor = record {
+              rules = rs;
+              crashed = a .crashed;
+              timers = v j;
+              link = linkView (a .link);
+              storage =
+                  storedView (a .stored);
+            };
+          } in
           ap (backTo n a) (g ∙ ap (λ (x : Struct). touchedOf n x (finishPart base i (partView rs n x) (didView d))) f)
           ∙ back-touched n n a _ _ (on-finish refusal refl refl refl base i _ _)
           ∙ ap (touchedOf n a) (ap (λ (p : Part). finishPart base i p (didView d)) w ∙ finish-same base i _ d (z .did) (z .link) (z .commands))

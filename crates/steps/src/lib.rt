@@ -13,12 +13,14 @@ use net_network::Sent;
 use sys_actor::Actor;
 use types::Envelope;
 use types::Id;
+use types::MOST_TOLD;
 use types::Message;
 ghost use mathlib.Core.Path.{_≡_};
 ghost use mathlib.Core.Bool.{true, not, _&&_};
 ghost use mathlib.Core.List.{List, _∷_, [], map};
 ghost use Prim.Native.Nat.{_≤_, _<_};
 ghost use lib.ListN.{length, take};
+ghost use Rattle.types.specs.Capacities.{mostTold, mostActors};
 ghost use Rattle.link_output.specs.declared.CommandSlot.{CommandSlot};
 ghost use Rattle.types.specs.declared.Rule.{Rule};
 ghost use Rattle.rules.specs.Outcome.{base};
@@ -135,12 +137,12 @@ fn run_command(i: Id, n: Network, a: Actor, c: LinkCommand) -> Touched
     }
 }
 
-// How many of 33 places are used, whatever the count says.
+// How many of its places are used, whatever the count says.
 fn in_use(used: usize) -> usize
-    ensures { λ r. ⌜ (r ≤ 33) × ((l : List CommandSlot) → length l ≡ 33 → take r l ≡ take used l) ⌝ }
+    ensures { λ r. ⌜ (r ≤ mostTold) × ((l : List CommandSlot) → length l ≡ mostTold → take r l ≡ take used l) ⌝ }
 {
-    if 33 < used {
-        return 33;
+    if MOST_TOLD < used {
+        return MOST_TOLD;
     }
     used
 }
@@ -148,7 +150,8 @@ fn in_use(used: usize) -> usize
 // All of them, or the first refusal with everything as it was.
 fn run_commands(i: Id, n: Network, a: Actor, cs: Commands) -> Touched
     requires { ⌜ NetReady n × ActorLaid a ⌝ }
-    ensures { λ x. ⌜ ((rs : List Rule) → x ≡ touchedOf n a (runPart (base .room) i (map (commandView (durableView (a .link .durable))) (commandsIn cs)) (partView rs n a))) ⌝ }
+    ensures { λ x. ⌜ ((rs : List Rule)
+        → x ≡ touchedOf n a (runPart (base .room) i (map (commandView (durableView (a .link .durable))) (commandsIn cs)) (partView rs n a))) ⌝ }
 {
     let list = cs.list;
     let used = in_use(cs.used);
@@ -231,7 +234,8 @@ fn finish(i: Id, n: Network, a: Actor, d: Did) -> Touched
 // ---- the actions, after 2 and Ignored for the destination
 // A message to a live actor: its envelope has been taken from the network as s says, then the commands run.
 pub fn hand_over(e: Envelope, s: Sent, n: Network, a: Actor, t: Table) -> Touched
-    requires { ⌜ NetReady n × ActorLaid a × (tableOk t ≡ true) × (durableLaid (a .link .durable) ≡ true) × (e .src .0 < 8) × (s ≡ sentOf n (onDeliver e (netView n))) ⌝ }
+    requires { ⌜ NetReady n × ActorLaid a × (tableOk t ≡ true) × (durableLaid (a .link .durable) ≡ true)
+        × (e .src .0 < mostActors) × (s ≡ sentOf n (onDeliver e (netView n))) ⌝ }
     ensures { λ x. ⌜ x ≡ touchedOf n a (deliverPart base e (partView (rulesOf t) n a)) ⌝ }
 {
     let found = s.answer;

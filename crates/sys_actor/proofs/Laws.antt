@@ -9,6 +9,7 @@ use mathlib.Core.List.{List, [], _∷_}
 use lib.ListN.{length, take}
 use lib.Dec.{leb, ltb, eqb, lit≤}
 use borrow.Author.Tests.{leb-true, le-leb, eqb-true}
+use Rattle.types.specs.Capacities.{mostPending, mostActors, lastState, network}
 use Rattle.lists.specs.Lists.{choose, all, chain, every}
 use Rattle.lists.proofs.Members.{every-cons, every-make, every-nil, all-in, all-make, not-true}
 use Rattle.lists.proofs.Chains.{chain-is, is-chain}
@@ -26,7 +27,19 @@ use Rattle.link_timers.specs.Views.{listed, timersOf}
 use Rattle.link_timers.proofs.Listed.{timers-listed, listed-timers, listed-timers-of}
 use Rattle.link_durable.specs.declared.Durable.{Durable}
 use Rattle.link_durable.specs.declared.Stored.{Stored}
-use Rattle.link_durable.specs.Views.{zeroDurable, durableView, durableAs, storedView, storedAs, durableLaid, unsaved, blankDurable, storedLaid, durableFine, storedFine}
+use Rattle.link_durable.specs.Views.{
+  zeroDurable,
+  durableView,
+  durableAs,
+  storedView,
+  storedAs,
+  durableLaid,
+  unsaved,
+  blankDurable,
+  storedLaid,
+  durableFine,
+  storedFine,
+}
 use Rattle.link_durable.proofs.Containers.{DurableLaid, durable-is, durable-fits, durable-back, durable-same}
 use Rattle.link_durable.proofs.Kept.{fine-laid, fine-formed, stored-laid, stored-formed, durable-kept, stored-kept}
 use Rattle.link_handlers.specs.Views.{linkView, linkAs}
@@ -76,15 +89,15 @@ module _ (s : Stored) (laid : DurableLaid (s .durable)) where
 -- ---- an actor that passes
 -- What the type says of any actor: the lengths of its arrays, and a word of 32 bits.
 pub record Typed (a : Actor) : Type 0 where
-  pub pending : length (a .link .durable .pending .records) ≡ 32
-  pub taken : length (a .link .durable .taken .last) ≡ 8
-  pub stored-pending : length (a .stored .durable .pending .records) ≡ 32
-  pub stored-taken : length (a .stored .durable .taken .last) ≡ 8
+  pub pending : length (a .link .durable .pending .records) ≡ mostPending
+  pub taken : length (a .link .durable .taken .last) ≡ mostActors
+  pub stored-pending : length (a .stored .durable .pending .records) ≡ mostPending
+  pub stored-taken : length (a .stored .durable .taken .last) ≡ mostActors
   pub word : a .timers .0 < 4294967296
 
 pub record Fine (k : ℕ) (a : Actor) : Type 0 where
   pub durable : durableFine k (a .link .durable) ≡ true
-  pub state : leb (a .link .state) 15 ≡ true
+  pub state : leb (a .link .state) lastState ≡ true
   pub stored : storedFine k (a .stored) ≡ true
   pub still : quiet a ≡ true
 
@@ -148,7 +161,7 @@ module _ (rs : List Rule) (k : ℕ) (a : Actor) where
   unfolding actorOk quiet
   actor-formed h e =
       let f = fine-is k a e in let t = listed-timers (a .timers .0) in
-      every-make _ _ h (every-make _ _ (all-make _ _ (λ x m. le-leb x 31 (t .most x m))) (every-make _ _ (is-chain _ _ (t .up)) (every-make _ _ (f .still)
+      every-make _ _ h (every-make _ _ (all-make _ _ (λ x m. le-leb x network (t .most x m))) (every-make _ _ (is-chain _ _ (t .up)) (every-make _ _ (f .still)
       (every-make _ _ (fine-formed k _ (f .durable)) (every-make _ _ (f .state) (every-make _ _ (stored-formed k _ (f .stored)) every-nil))))))
 
   -- The other way: one that is laid out passes, and its rules are sound.
@@ -173,13 +186,13 @@ module _ (k : ℕ) (a : system.Actor) (ok : actorOk (base .limits) k a ≡ true)
   unfolding actorOk
   timers-of =
       let a2 = every-cons _ _ (every-cons _ _ ok .1) in
-      record { most = λ t m. leb-true t 31 (all-in _ _ (a2 .0) t m); up = chain-is _ _ (every-cons _ _ (a2 .1) .0) }
+      record { most = λ t m. leb-true t network (all-in _ _ (a2 .0) t m); up = chain-is _ _ (every-cons _ _ (a2 .1) .0) }
 
   pub rules-of : sound (a .rules) ≡ true
   unfolding actorOk
   rules-of = every-cons _ _ ok .0
 
-  pub actor-kept : k ≤ 8 → actorFine k (actorAs a) ≡ true
+  pub actor-kept : k ≤ mostActors → actorFine k (actorAs a) ≡ true
   unfolding actorOk quiet
   actor-kept h =
       let a3 = every-cons _ _ (every-cons _ _ (every-cons _ _ ok .1) .1) in let a4 = every-cons _ _ (a3 .1) in

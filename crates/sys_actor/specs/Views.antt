@@ -7,6 +7,7 @@ use mathlib.Core.Option.{none}
 use mathlib.Core.List.{List, [], _∷_}
 use lib.ListN.{length}
 use lib.Dec.{leb, eqb}
+use Rattle.types.specs.Capacities.{lastState}
 use Rattle.lists.specs.Lists.{every}
 use Rattle.types.specs.declared.Rule.{Rule}
 use Rattle.rules.specs.System as rules
@@ -38,7 +39,7 @@ quiet a = not (a .crashed) || eqb (length (listed (a .timers .0))) 0
 
 -- Laid out and well formed beside a sound table, with k actors.
 unfoldable pub actorFine : ℕ → Actor → Bool
-actorFine k a = every (durableFine k (a .link .durable) ∷ leb (a .link .state) 15 ∷ storedFine k (a .stored) ∷ quiet a ∷ [])
+actorFine k a = every (durableFine k (a .link .durable) ∷ leb (a .link .state) lastState ∷ storedFine k (a .stored) ∷ quiet a ∷ [])
 
 -- An actor that is not used is all zero: its next number too.
 abbrev pub zeroActor : Actor

@@ -8,6 +8,9 @@ use link_durable::stored_ok;
 use link_handlers::Link;
 use link_timers::Timers;
 use types::Id;
+use types::LAST_STATE;
+use types::MOST_ACTORS;
+use types::MOST_PENDING;
 use types::Number;
 use types::Payload;
 use types::Pending;
@@ -36,11 +39,11 @@ fn no_durable() -> Durable
     Durable {
         next: Number(0),
         pending: Pendings {
-            records: [q; 32],
+            records: [q; MOST_PENDING],
             used: 0,
         },
         taken: Taken {
-            last: [Number(0); 8],
+            last: [Number(0); MOST_ACTORS],
             used: 0,
         },
         inner: Storage::Nothing,
@@ -89,7 +92,7 @@ pub fn actor_ok(a: Actor, actors: usize) -> bool
     if !durable_ok(d, actors) {
         return false;
     }
-    if 15 < l.state {
+    if LAST_STATE < l.state {
         return false;
     }
     if !stored_ok(s, actors) {

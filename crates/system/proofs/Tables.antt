@@ -9,6 +9,7 @@ use lib.ListN.{length, take, drop, replicate, length-drop, take-append-drop}
 use lib.Seq.{length-take-le, drop-at}
 use lib.Dec.{leb, eqb, lit≤}
 use borrow.Author.Tests.{leb-true, le-leb, eqb-true}
+use Rattle.types.specs.Capacities.{mostRules, mostCommands}
 use Rattle.lists.specs.Lists.{_∈_, all, every, pad}
 use Rattle.lists.proofs.Members.{and-both, every-cons, every-make, every-nil, all-in, not-true}
 use Rattle.lists.proofs.Places.{laid-length}
@@ -49,7 +50,8 @@ module _ {A : Type 0} (p : A → Bool) (z : A) (passes : p z ≡ true) where
 pub drop-in : {A : Type 0} (n : ℕ) (l : List A) (x : A) → x ∈ drop n l → x ∈ l
 drop-in {A} n l x m = subst (λ (k : List A). x ∈ k) (take-append-drop n l) (Memᴰ·append-right (take n l) m)
 
-pub rest-same : {A : Type 0} (z : A) (n : ℕ) (es : List A) (used : ℕ) → length es ≡ n → used ≤ n → drop used es ≡ replicate (length (drop used es)) z → es ≡ pad n z (take used es)
+pub rest-same : {A : Type 0} (z : A) (n : ℕ) (es : List A) (used : ℕ) → length es ≡ n → used ≤ n → drop used es ≡ replicate (length (drop used es)) z
+    → es ≡ pad n z (take used es)
 unfolding pad
 rest-same {A} z n es used h k e =
     let v = length-take-le used es (omega arith) in
@@ -67,19 +69,21 @@ unused-zero : (s : Slot) → unused s ≡ true → s ≡ zeroSlot
 unfolding unused
 unused-zero s e = zero-is (s .command) e
 
-blank-zero : (r : Rule) → length (r .commands) ≡ 4 → blankRule r ≡ true → r ≡ zeroRule
+blank-zero : (r : Rule) → length (r .commands) ≡ mostCommands → blankRule r ≡ true → r ≡ zeroRule
 unfolding blankRule
 blank-zero r n e =
     let a = every-cons _ _ e in let b = every-cons _ _ (a .1) in let c = every-cons _ _ (b .1) in let d = every-cons _ _ (c .1) in
     let f = every-cons _ _ (d .1) in let g = every-cons _ _ (f .1) in let h = every-cons _ _ (g .1) in
-    let s : r .commands ≡ replicate 4 zeroSlot = all-same unused zeroSlot (r .commands) (λ x m. unused-zero x) (every-cons _ _ (h .1) .0) ∙ ap (λ (k : ℕ). replicate k zeroSlot) n in
+    let s : r .commands ≡ replicate mostCommands zeroSlot = all-same unused zeroSlot (r .commands) (λ x m. unused-zero x) (every-cons _ _ (h .1) .0)
+    ∙ ap (λ (k : ℕ). replicate k zeroSlot) n in
     let ev = eqb-true (r .event) 0 (a .0) in let st = eqb-true (r .state) 0 (b .0) in let lo = eqb-true (r .low) 0 (c .0) in
-    let hi = eqb-true (r .high) 0 (d .0) in let to = not-true (r .touched) (f .0) in let ne = eqb-true (r .next) 0 (g .0) in let us = eqb-true (r .used) 0 (h .0) in
+    let hi = eqb-true (r .high) 0 (d .0) in let to = not-true (r .touched) (f .0) in let ne = eqb-true (r .next) 0 (g .0) in
+    let us = eqb-true (r .used) 0 (h .0) in
     λ i. record { event = ev i; state = st i; low = lo i; high = hi i; touched = to i; next = ne i; commands = s i; used = us i }
 
 -- ---- a table
 record Parts (t : Table) : Type 0 where
-  fit : t .used ≤ 16
+  fit : t .used ≤ mostRules
   rest : all blankRule (drop (t .used) (t .rules)) ≡ true
 
 parts-of : (t : Table) → tableLaid t ≡ true → Parts t
@@ -89,14 +93,16 @@ parts-of t e = let a = every-cons _ _ e in record { fit = leb-true _ _ (a .0); r
 pub table-laid : (t : Table) → TableTyped t → tableLaid t ≡ true → TableLaid t
 table-laid t y e =
     let p = parts-of t e in
-    let r = rest-same zeroRule 16 (t .rules) (t .used) (y .room) (p .fit) (all-same blankRule zeroRule (drop (t .used) (t .rules)) (λ x m. blank-zero x (y .slots x (drop-in (t .used) (t .rules) x m))) (p .rest)) in
-    let n = sym (laid-length 16 zeroRule (t .rules) (t .used) (p .fit) r) in
+    let r = rest-same zeroRule mostRules (t .rules) (t .used) (y .room) (p .fit)
+    (all-same blankRule zeroRule (drop (t .used) (t .rules)) (λ x m. blank-zero x (y .slots x (drop-in (t .used) (t .rules) x m))) (p .rest)) in
+    let n = sym (laid-length mostRules zeroRule (t .rules) (t .used) (p .fit) r) in
     λ i. record { rules = r i; used = n i }
 
 -- The test of a table is that of its layout and of its rules.
 pub table-parts : (t : Table) → tableOk t ≡ true → (tableLaid t ≡ true) × (sound (rulesOf t) ≡ true)
 unfolding tableOk tableLaid
-table-parts t e = let a = every-cons _ _ e in let b = every-cons _ _ (a .1) in (every-make _ _ (a .0) (every-make _ _ (b .0) every-nil), every-cons _ _ (b .1) .0)
+table-parts t e = let a = every-cons _ _ e in let b = every-cons _ _ (a .1) in
+    (every-make _ _ (a .0) (every-make _ _ (b .0) every-nil), every-cons _ _ (b .1) .0)
 
 pub table-make : (t : Table) → tableLaid t ≡ true → sound (rulesOf t) ≡ true → tableOk t ≡ true
 unfolding tableOk tableLaid
@@ -119,15 +125,15 @@ blank-table t y e =
 
 -- ---- the struct of rules
 pub rules-back : (rs : List Rule) → rulesOf (tableAs rs) ≡ rs
-rules-back rs = pad-view 16 zeroRule rs
+rules-back rs = pad-view mostRules zeroRule rs
 
-pub table-fits : (rs : List Rule) → leb (length rs) 16 ≡ true → tableLaid (tableAs rs) ≡ true
+pub table-fits : (rs : List Rule) → leb (length rs) mostRules ≡ true → tableLaid (tableAs rs) ≡ true
 unfolding tableLaid blankRule unused zeroCommand all every
-table-fits rs h = rw (h, pad-rest blankRule zeroRule refl 16 rs)
+table-fits rs h = rw (h, pad-rest blankRule zeroRule refl mostRules rs)
 
 pub table-kept : (rs : List Rule) → sound rs ≡ true → tableLaid (tableAs rs) ≡ true
 unfolding sound every
-table-kept rs e = table-fits rs (and-both (leb (length rs) 16) _ e .0)
+table-kept rs e = table-fits rs (and-both (leb (length rs) mostRules) _ e .0)
 
 pub zero-blank : blankTable zeroTable ≡ true
 unfolding blankTable sound all every

@@ -10,6 +10,7 @@ use denote.Shadow.{shadow}
 use denote.Array.{each}
 use denote.Struct.Declared.{row}
 use borrow.Author.Needs.{needs}
+use Rattle.types.specs.Capacities.{mostEntries, mostActors, mostRules, mostCommands}
 use Rattle.lists.specs.Lists.{_∈_}
 use Rattle.lists.proofs.Places.{length-mapped}
 use Rattle.types.specs.declared.Rule.{Rule}
@@ -30,23 +31,24 @@ each-says f into P h (y ∷ xs) (u ∷ us) g x (List·Memᴰ·head e) = rw e (h 
 each-says f into P h (y ∷ xs) (u ∷ us) g x (List·Memᴰ·tail m) = each-says f into P h xs us (g .1) x m
 
 pub record TableTyped (t : Table) : Type 0 where
-  pub room : length (t .rules) ≡ 16
-  pub slots : (r : Rule) → r ∈ t .rules → length (r .commands) ≡ 4
+  pub room : length (t .rules) ≡ mostRules
+  pub slots : (r : Rule) → r ∈ t .rules → length (r .commands) ≡ mostCommands
 
 pub record SystemTyped (s : System) : Type 0 where
-  pub entries : length (s .network .entries) ≡ 128
-  pub actors : length (s .actors) ≡ 8
-  pub tables : length (s .tables) ≡ 8
+  pub entries : length (s .network .entries) ≡ mostEntries
+  pub actors : length (s .actors) ≡ mostActors
+  pub tables : length (s .tables) ≡ mostActors
   pub actor : (a : Actor) → a ∈ s .actors → Typed a
   pub table : (t : Table) → t ∈ s .tables → TableTyped t
 
-rule-says : (r : Rule) (u : List Val) → shadow (rule.the-field .row .own (rule.the-field .into r) u) → length (r .commands) ≡ 4
+rule-says : (r : Rule) (u : List Val) → shadow (rule.the-field .row .own (rule.the-field .into r) u) → length (r .commands) ≡ mostCommands
 rule-says r u g = search (needs, length-mapped)
 
 pub table-says : (t : Table) (u : List Val) → shadow (table.the-field .row .own (table.the-field .into t) u) → TableTyped t
 table-says t u g = record {
   room = search (needs, length-mapped);
-  slots = each-says (rule.the-field .row .own) (rule.the-field .into) (λ r. length (r .commands) ≡ 4) rule-says (t .rules) (g .1 .1 .0 .0) (g .1 .1 .0 .1 .1);
+  slots = each-says (rule.the-field .row .own) (rule.the-field .into) (λ r. length (r .commands) ≡ mostCommands) rule-says (t .rules) (g .1 .1 .0 .0)
+      (g .1 .1 .0 .1 .1);
 }
 
 actor-says : (a : Actor) (u : List Val) → shadow (actor.the-field .row .own (actor.the-field .into a) u) → Typed a

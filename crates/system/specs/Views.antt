@@ -6,6 +6,7 @@ use mathlib.Core.Bool.{Bool, true, false}
 use mathlib.Core.List.{List, [], _∷_, map, zipWith}
 use lib.ListN.{length, take, drop, replicate}
 use lib.Dec.{leb, eqb}
+use Rattle.types.specs.Capacities.{mostActors, mostRules, mostCommands}
 use Rattle.lists.specs.Lists.{all, every, pad}
 use Rattle.types.specs.declared.Slot.{Slot}
 use Rattle.types.specs.declared.Rule.{Rule}
@@ -26,10 +27,10 @@ abbrev pub zeroSlot : Slot
 zeroSlot = record { command = SetTimer 0 }
 
 abbrev pub zeroRule : Rule
-zeroRule = record { event = 0; state = 0; low = 0; high = 0; touched = false; next = 0; commands = replicate 4 zeroSlot; used = 0 }
+zeroRule = record { event = 0; state = 0; low = 0; high = 0; touched = false; next = 0; commands = replicate mostCommands zeroSlot; used = 0 }
 
 abbrev pub tableAs : List Rule → Table
-tableAs rs = record { rules = pad 16 zeroRule rs; used = length rs }
+tableAs rs = record { rules = pad mostRules zeroRule rs; used = length rs }
 
 abbrev pub TableLaid : Table → Type 0
 TableLaid t = t ≡ tableAs (rulesOf t)
@@ -53,8 +54,8 @@ abbrev pub systemOf : rules.Sys → System
 systemOf m = record {
   count = length (m .actors);
   network = networkOf (m .net);
-  actors = pad 8 zeroActor (map actorAs (m .actors));
-  tables = pad 8 zeroTable (map tableFor (m .actors));
+  actors = pad mostActors zeroActor (map actorAs (m .actors));
+  tables = pad mostActors zeroTable (map tableFor (m .actors));
 }
 
 -- The struct is that of what it holds: what is not used is zero.
@@ -63,7 +64,7 @@ SystemLaid s = s ≡ systemOf (sysView s)
 
 -- ---- the test of any content
 unfoldable pub tableLaid : Table → Bool
-tableLaid t = every (leb (t .used) 16 ∷ all blankRule (drop (t .used) (t .rules)) ∷ [])
+tableLaid t = every (leb (t .used) mostRules ∷ all blankRule (drop (t .used) (t .rules)) ∷ [])
 
 unfoldable pub blankTable : Table → Bool
 blankTable t = every (eqb (t .used) 0 ∷ tableLaid t ∷ [])
@@ -71,7 +72,7 @@ blankTable t = every (eqb (t .used) 0 ∷ tableLaid t ∷ [])
 -- The count fits, each part in use is laid out, and the others are zero.
 unfoldable pub systemLaid : System → Bool
 systemLaid s = every
-    (leb (s .count) 8 ∷ laidOut (s .network)
+    (leb (s .count) mostActors ∷ laidOut (s .network)
     ∷ all actorLaid (take (s .count) (s .actors)) ∷ all tableLaid (take (s .count) (s .tables))
     ∷ all blankActor (drop (s .count) (s .actors)) ∷ all blankTable (drop (s .count) (s .tables)) ∷ [])
 

@@ -4,6 +4,9 @@ use net_network::Network;
 use sys_actor::Actor;
 use sys_actor::zero_actor;
 use types::Kind;
+use types::MOST_ACTORS;
+use types::MOST_COMMANDS;
+use types::MOST_RULES;
 use types::Rule;
 use types::RuleCommand;
 use types::Slot;
@@ -15,8 +18,8 @@ ghost use Rattle.system.specs.Views.{zeroTable, systemOf};
 pub struct System {
     pub count: usize,
     pub network: Network,
-    pub actors: [Actor; 8],
-    pub tables: [Table; 8],
+    pub actors: [Actor; MOST_ACTORS],
+    pub tables: [Table; MOST_ACTORS],
 }
 
 // The table at a place that is not used: all zero.
@@ -33,11 +36,11 @@ pub fn zero_table() -> Table
         high: 0,
         touched: false,
         next: 0,
-        commands: [s; 4],
+        commands: [s; MOST_COMMANDS],
         used: 0,
     };
     Table {
-        rules: [r; 16],
+        rules: [r; MOST_RULES],
         used: 0,
     }
 }
@@ -52,7 +55,7 @@ pub fn blank() -> System
     System {
         count: 0,
         network: n,
-        actors: [a; 8],
-        tables: [t; 8],
+        actors: [a; MOST_ACTORS],
+        tables: [t; MOST_ACTORS],
     }
 }

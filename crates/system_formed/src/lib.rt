@@ -6,18 +6,20 @@ use sys_actor::Actor;
 use sys_actor::actor_ok;
 use sys_actor::blank_actor;
 use system::System;
+use types::MOST_ACTORS;
 ghost use mathlib.Core.Path.{_≡_};
 ghost use mathlib.Core.Bool.{true};
 ghost use Prim.Native.Nat.{_≤_};
 ghost use lib.ListN.{take, drop};
+ghost use Rattle.types.specs.Capacities.{mostActors};
 ghost use Rattle.lists.specs.Lists.{all};
 ghost use Rattle.link_inner.specs.Views.{tableOk};
 ghost use Rattle.sys_actor.specs.Views.{actorFine, blankActor};
 ghost use Rattle.system.specs.Views.{SystemLaid, blankTable, systemFine};
 
 // The actors in use.
-fn actors_ok(actors: [Actor; 8], count: usize) -> bool
-    requires { ⌜ count ≤ 8 ⌝ }
+fn actors_ok(actors: [Actor; MOST_ACTORS], count: usize) -> bool
+    requires { ⌜ count ≤ mostActors ⌝ }
     ensures { λ r. ⌜ r ≡ all (actorFine count) (take count actors) ⌝ }
 {
     let mut i = 0;
@@ -32,8 +34,8 @@ fn actors_ok(actors: [Actor; 8], count: usize) -> bool
 }
 
 // Their tables. A start asks it too.
-pub fn tables_ok(tables: [Table; 8], count: usize) -> bool
-    requires { ⌜ count ≤ 8 ⌝ }
+pub fn tables_ok(tables: [Table; MOST_ACTORS], count: usize) -> bool
+    requires { ⌜ count ≤ mostActors ⌝ }
     ensures { λ r. ⌜ r ≡ all tableOk (take count tables) ⌝ }
 {
     let mut i = 0;
@@ -48,12 +50,12 @@ pub fn tables_ok(tables: [Table; 8], count: usize) -> bool
 }
 
 // The other actors.
-fn actors_blank(actors: [Actor; 8], count: usize) -> bool
-    requires { ⌜ count ≤ 8 ⌝ }
+fn actors_blank(actors: [Actor; MOST_ACTORS], count: usize) -> bool
+    requires { ⌜ count ≤ mostActors ⌝ }
     ensures { λ r. ⌜ r ≡ all blankActor (drop count actors) ⌝ }
 {
     let mut i = count;
-    while i < 8 {
+    while i < MOST_ACTORS {
         let here = actors[i];
         if !blank_actor(here) {
             return false;
@@ -74,12 +76,12 @@ fn blank_table(t: Table) -> bool
 }
 
 // The other tables.
-fn tables_blank(tables: [Table; 8], count: usize) -> bool
-    requires { ⌜ count ≤ 8 ⌝ }
+fn tables_blank(tables: [Table; MOST_ACTORS], count: usize) -> bool
+    requires { ⌜ count ≤ mostActors ⌝ }
     ensures { λ r. ⌜ r ≡ all blankTable (drop count tables) ⌝ }
 {
     let mut i = count;
-    while i < 8 {
+    while i < MOST_ACTORS {
         let here = tables[i];
         if !blank_table(here) {
             return false;
@@ -101,7 +103,7 @@ pub fn well_formed(s: System) -> bool
     if count < 1 {
         return false;
     }
-    if 8 < count {
+    if MOST_ACTORS < count {
         return false;
     }
     if !net_ok(network, count) {

@@ -7,6 +7,7 @@ use mathlib.Core.Bool.{true, false}
 use mathlib.Core.List.{List, [], _∷_, map}
 use lib.ListN.{length, getD, set, length-set, length-map}
 use borrow.Author.Tests.{lt-ltb, le-ltb}
+use Rattle.types.specs.Capacities.{mostActors, mostRules}
 use Rattle.lists.specs.Lists.{pad}
 use Rattle.lists.proofs.Places.{set-pad}
 use Rattle.types.specs.declared.Id.{Id}
@@ -63,7 +64,8 @@ module _ (s : System) (r : Ready s) where
 
     -- Its unused places are zero.
     pub laid-at : actorLaid actor ≡ true
-    laid-at = ap actorLaid (actor-at s (r .laid) (r .formed) i h) ∙ fine-laid-out (length (m .actors)) (actorAs (rules.actor m i)) (actor-kept (length (m .actors)) (rules.actor m i) (seat-ok s (r .laid) (r .formed) i h) (formed-of m (r .formed) .few))
+    laid-at = ap actorLaid (actor-at s (r .laid) (r .formed) i h) ∙ fine-laid-out (length (m .actors)) (actorAs (rules.actor m i))
+        (actor-kept (length (m .actors)) (rules.actor m i) (seat-ok s (r .laid) (r .formed) i h) (formed-of m (r .formed) .few))
 
     -- The part that the core is given.
     pub part-at : partView (rulesOf table) (s .network) actor ≡ partOf i m
@@ -72,15 +74,23 @@ module _ (s : System) (r : Ready s) where
 
     -- A part with the same rules, put back.
     pub put-system : (p : Part) → p .actor .rules ≡ rules.actor m i .rules
-        → _≡_ {A = System} (record { count = s .count; network = networkOf (p .net); actors = set (s .actors) (i .0) (actorAs (p .actor)); tables = s .tables }) (systemOf (putBack i m p))
+        → _≡_ {A = System} (record {
+          count = s .count;
+          network = networkOf (p .net);
+          actors = set (s .actors) (i .0) (actorAs (p .actor));
+          tables =
+              s .tables;
+        }) (systemOf (putBack i m p))
     unfolding putBack rules.withNet rules.withActor rules.actor
     put-system p e =
         let l = m .actors in
         let c : s .count ≡ length (set l (i .0) (p .actor)) = sized ∙ sym (length-set l (i .0) (p .actor)) in
-        let a : set (s .actors) (i .0) (actorAs (p .actor)) ≡ pad 8 zeroActor (map actorAs (set l (i .0) (p .actor))) =
+        let a : set (s .actors) (i .0) (actorAs (p .actor)) ≡ pad mostActors zeroActor (map actorAs (set l (i .0) (p .actor))) =
         ap (λ (x : System). set (x .actors) (i .0) (actorAs (p .actor))) (r .laid)
-        ∙ set-pad 8 (map actorAs l) (i .0) (actorAs (p .actor)) zeroActor (rw (length-map l actorAs) inside)
-        ∙ ap (pad 8 zeroActor) (sym (map-set actorAs l (i .0) (p .actor))) in
-        let t : s .tables ≡ pad 8 zeroTable (map tableFor (set l (i .0) (p .actor))) =
-        ap (λ (x : System). x .tables) (r .laid) ∙ ap (pad 8 zeroTable) (sym (map-kept tableFor l (i .0) (p .actor) (rules.unstarted []) (ap (λ (rs : List Rule). record { rules = pad 16 zeroRule rs; used = length rs }) e))) in
+        ∙ set-pad mostActors (map actorAs l) (i .0) (actorAs (p .actor)) zeroActor (rw (length-map l actorAs) inside)
+        ∙ ap (pad mostActors zeroActor) (sym (map-set actorAs l (i .0) (p .actor))) in
+        let t : s .tables ≡ pad mostActors zeroTable (map tableFor (set l (i .0) (p .actor))) =
+        ap (λ (x : System). x .tables) (r .laid) ∙ ap (pad mostActors zeroTable)
+        (sym (map-kept tableFor l (i .0) (p .actor) (rules.unstarted [])
+        (ap (λ (rs : List Rule). record { rules = pad mostRules zeroRule rs; used = length rs }) e))) in
         λ j. record { count = c j; network = networkOf (p .net); actors = a j; tables = t j }

@@ -12,6 +12,7 @@ use mir.Val.{Val}
 use denote.Shadow.{shadow}
 use denote.Array.{Array, each}
 use denote.Struct.Declared.{row}
+use Rattle.types.specs.Capacities.{mostActors}
 use Rattle.lists.specs.Lists.{_∈_, all, pad}
 use Rattle.lists.proofs.Members.{all-in}
 use Rattle.lists.proofs.Places.{append-pad}
@@ -67,7 +68,8 @@ each-told (x ∷ xs) (u ∷ us) g t (List·Memᴰ·head e) = rw e (table-says x 
 each-told (x ∷ xs) (u ∷ us) g t (List·Memᴰ·tail m) = each-told xs us (g .1) t m
 
 -- What the types say of an array of tables.
-pub tables-say : (n : ℕ) (xs : List Table) (us : List Val) → shadow (Array (row table.the-type) n .own xs us) → (length xs ≡ n) × ((t : Table) → t ∈ xs → TableTyped t)
+pub tables-say : (n : ℕ) (xs : List Table) (us : List Val) → shadow (Array (row table.the-type) n .own xs us) → (length xs ≡ n)
+    × ((t : Table) → t ∈ xs → TableTyped t)
 tables-say n xs us g = (g .1 .0 .1, each-told xs (g .0) (g .1 .1))
 
 -- ---- the system
@@ -81,16 +83,23 @@ unfolding rules.unstarted
 own-all [] h = refl
 own-all (t ∷ l) h = ap₂ (λ (x : Table) (r : List Table). x ∷ r) (sym (h t (List·Memᴰ·head refl))) (own-all l (λ u m. h u (List·Memᴰ·tail m)))
 
-module _ (count : ℕ) (tables : List Table) (room : length tables ≡ 8) (typed : (t : Table) → t ∈ tables → TableTyped t) where
+module _ (count : ℕ) (tables : List Table) (room : length tables ≡ mostActors) (typed : (t : Table) → t ∈ tables → TableTyped t) where
   -- The arrays that the code makes are those of the rules' first system.
-  pub first-system : count ≤ 8 → all tableOk (take count tables) ≡ true → (k : Kind) (n : Net)
-      → _≡_ {A = System} (record { count = count; network = networkOf n; actors = pad 8 zeroActor (replicate count (actorAs (rules.unstarted []))); tables = pad 8 zeroTable (take count tables) })
+  pub first-system : count ≤ mostActors → all tableOk (take count tables) ≡ true → (k : Kind) (n : Net)
+      → _≡_ {A = System} (record {
+        count = count;
+        network = networkOf n;
+        actors =
+            pad mostActors zeroActor (replicate count (actorAs (rules.unstarted [])));
+        tables = pad mostActors zeroTable (take count tables);
+      })
       (systemOf (rules.withNet n (boot k (tablesView count tables))))
   unfolding boot rules.withNet
   first-system h e k n =
       let l = take count tables in
       let m : length (tablesView count tables) ≡ count = length-map l rulesOf ∙ length-take-le count tables (omega arith) in
       let c = sym (length-map (tablesView count tables) rules.unstarted ∙ m) in
-      let a = ap (pad 8 zeroActor) (ap (λ (j : ℕ). replicate j (actorAs (rules.unstarted []))) (sym m) ∙ sym (fresh-all (tablesView count tables))) in
-      let t = ap (pad 8 zeroTable) (sym (own-all l (λ u i. table-laid u (typed u (take-in count tables u i)) (table-parts u (all-in _ _ e u i) .0)))) in
+      let a = ap (pad mostActors zeroActor) (ap (λ (j : ℕ). replicate j (actorAs (rules.unstarted []))) (sym m) ∙ sym (fresh-all (tablesView count tables))) in
+      let t = ap (pad mostActors zeroTable) (sym (own-all l (λ u i. table-laid u (typed u (take-in count tables u i)) (table-parts u (all-in _ _ e u i) .0))))
+      in
       λ i. record { count = c i; network = networkOf n; actors = a i; tables = t i }

@@ -9,6 +9,7 @@ use mathlib.Core.List.{List, [], _∷_}
 use lib.ListN.{length, take, replicate}
 use borrow.Author.Tests.{eqb-true}
 use lib.Dec.{eqb}
+use Rattle.types.specs.Capacities.{mostActors}
 use Rattle.lists.specs.Lists.{_∈_, any, all, pad}
 use Rattle.lists.proofs.Members.{any-in, all-in}
 use Rattle.answers.specs.Answers.{answerOf}
@@ -58,7 +59,8 @@ refused-number n e =
     let q = any-in (eqb n) (6 ∷ 7 ∷ 8 ∷ 10 ∷ []) e in
     subst (λ (k : ℕ). refusal k ≡ true) (sym (eqb-true n (q .0) (q .2))) (all-in refusal (6 ∷ 7 ∷ 8 ∷ 10 ∷ []) refl (q .0) (q .1))
 
-among-numbers : (o : Outcome Next) → (answer o ≡ 0) ⊎ (any (eqb (answer o)) (6 ∷ 7 ∷ 8 ∷ 10 ∷ []) ≡ true) → (answer o ≡ 0 → (x : Next) × (o ≡ done x)) → Among refusal (systems o)
+among-numbers : (o : Outcome Next) → (answer o ≡ 0) ⊎ (any (eqb (answer o)) (6 ∷ 7 ∷ 8 ∷ 10 ∷ []) ≡ true) → (answer o ≡ 0 → (x : Next) × (o ≡ done x))
+    → Among refusal (systems o)
 unfolding Among answer systems
 among-numbers (done x) e f = tt
 among-numbers (refused n) (inl e) f = let q = f e .1 in absurd (let z : _≡_ {A = ℕ} 0 1 = cc in omega arith)
@@ -69,7 +71,8 @@ unfolding started answerOf
 started-among kind count tables g =
     let ts = tablesView count tables in
     subst (Among refusal) (sym (systems-guard (startLaid count tables g) 10 (start base kind ts (givenView g))))
-    (on-guard refusal refl refl refl _ _ _ refl (among-numbers (start base kind ts (givenView g)) (start-answers base kind ts (givenView g)) (start-done base kind ts (givenView g))))
+    (on-guard refusal refl refl refl _ _ _ refl (among-numbers (start base kind ts (givenView g)) (start-answers base kind ts (givenView g))
+    (start-done base kind ts (givenView g))))
 
 module _ (kind count : ℕ) (tables : List Table) (g : Given) where
   abbrev ts : List (List Rule)
@@ -85,7 +88,8 @@ module _ (kind count : ℕ) (tables : List Table) (g : Given) where
   abbrev onward : Outcome Net → Outcome Sys
   onward o = bind (mapped (λ (n : Net). withNet n first) o) (λ s. systems (wakeAll base 0 (first .actors) s))
 
-  stages : started kind count tables g ≡ guard (startFine kind count tables g) 10 (systems (bind (fill (base .room) (givenView g) first) (wakeAll base 0 (first .actors))))
+  stages : started kind count tables g ≡ guard (startFine kind count tables g) 10
+      (systems (bind (fill (base .room) (givenView g) first) (wakeAll base 0 (first .actors))))
   unfolding started startFine start
   stages = ap systems (guard-both (startLaid count tables g) (startable kind ts (givenView g)) 10 _) ∙ systems-guard _ _ _
 
@@ -97,7 +101,8 @@ module _ (kind count : ℕ) (tables : List Table) (g : Given) where
   net-first = refl
 
   filled : fill (base .room) (givenView g) first ≡ mapped (λ (n : Net). withNet n first) sent
-  filled = fill-sends (base .room) (givenView g) first ∙ ap (λ (n : Net). mapped (λ (n : Net). withNet n first) (sendAll (base .room) (givenView g) n)) net-first
+  filled = fill-sends (base .room) (givenView g) first ∙ ap (λ (n : Net). mapped (λ (n : Net). withNet n first) (sendAll (base .room) (givenView g) n))
+      net-first
 
   -- The given envelopes, then the actors.
   goes : startFine kind count tables g ≡ true → started kind count tables g ≡ onward sent
@@ -114,7 +119,7 @@ module _ (kind count : ℕ) (tables : List Table) (g : Given) where
       ∙ sym (ap (answeredOf (systemOf blank)) (goes e ∙ ap onward (q .1)))
 
   -- The first system after the given envelopes.
-  module _ (room : length tables ≡ 8) (typed : (t : Table) → t ∈ tables → TableTyped t) (e : startFine kind count tables g ≡ true)
+  module _ (room : length tables ≡ mostActors) (typed : (t : Table) → t ∈ tables → TableTyped t) (e : startFine kind count tables g ≡ true)
       (s : Sent) (f : s ≡ sentOf (networkOf (emptyNet (kindOf kind))) sent) (h : isDone (s .answer) ≡ true) where
     abbrev fine : Fine kind count tables g
     fine = fine-of kind count tables g room e
@@ -130,7 +135,8 @@ module _ (kind count : ℕ) (tables : List Table) (g : Given) where
     unfolding mapped
     left =
         let n = count-seen count tables room (fine .few) in
-        let b = boot-formed base (kindOf kind) ts (subst (λ (k : ℕ). 1 ≤ k) (sym n) (fine .some)) (subst (λ (k : ℕ). k ≤ 8) (sym n) (fine .few)) (tables-sound (take count tables) (fine .tables-ok)) in
+        let b = boot-formed base (kindOf kind) ts (subst (λ (k : ℕ). 1 ≤ k) (sym n) (fine .some)) (subst (λ (k : ℕ). k ≤ mostActors) (sym n) (fine .few))
+        (tables-sound (take count tables) (fine .tables-ok)) in
         fill-formed base (givenView g) first b
         (λ x i. subst (λ (k : ℕ). sourceKnown k x ≡ true) (sym (boot-size base (kindOf kind) ts ∙ n)) (all-in _ _ (fine .sources) x i))
         .value m (filled ∙ ap (mapped (λ (n : Net). withNet n first)) (net .1))
@@ -139,7 +145,8 @@ module _ (kind count : ℕ) (tables : List Table) (g : Given) where
     formed = is-sys base m (left .formed)
 
     -- The struct that the code makes.
-    module _ (bs : List Actor) (own : List Table) (fresh : bs ≡ pad 8 zeroActor (replicate count (actorAs (rules.unstarted [])))) (kept : own ≡ pad 8 zeroTable (take count tables)) where
+    module _ (bs : List Actor) (own : List Table) (fresh : bs ≡ pad mostActors zeroActor (replicate count (actorAs (rules.unstarted []))))
+        (kept : own ≡ pad mostActors zeroTable (take count tables)) where
       abbrev made : System
       made = record { count = count; network = s .network; actors = bs; tables = own }
 

@@ -7,6 +7,7 @@ use mathlib.Core.Bool.{true, false}
 use mathlib.Core.List.{List, [], _∷_}
 use lib.ListN.{length, drop, getD, set, drop-of-length-le}
 use lib.Seq.{drop-cons}
+use Rattle.types.specs.Capacities.{mostActors}
 use Rattle.lists.proofs.Members.{every-cons}
 use Rattle.answers.specs.Answers.{answerOf}
 use Rattle.answers.specs.declared.Answer.the-variants.{Done}
@@ -87,7 +88,8 @@ record Kept (t : Sys) : Type 0 where
   formed : wellFormed base t ≡ true
   live : (j : Id) → rules.actor t j .crashed ≡ false
 
-wake-kept : (i : Id) (s t : Sys) → wellFormed base s ≡ true → ((j : Id) → rules.actor s j .crashed ≡ false) → i .0 < length (s .actors) → systems (wake base i s) ≡ done t → Kept t
+wake-kept : (i : Id) (s t : Sys) → wellFormed base s ≡ true → ((j : Id) → rules.actor s j .crashed ≡ false) → i .0 < length (s .actors)
+    → systems (wake base i s) ≡ done t → Kept t
 wake-kept i s t ok live h e =
     let x = systems-done (wake base i s) t e in
     let l = wake-formed base i s (sys-is base s ok) h (live i) .value (x .0) (x .1) in
@@ -107,7 +109,8 @@ withParts s n bs = record { count = s .count; network = n; actors = bs; tables =
 -- After i actors: the system so far may go on, and the rest from here gives what all of them give from the start.
 pub record Waking (s : System) (i : ℕ) (network : Network) (actors : List Actor) : Type 0 where
   pub awaits : Awaiting (withParts s network actors)
-  pub same : systems (wakeAll base 0 (sysView s .actors) (sysView s)) ≡ systems (wakeAll base i (drop i (sysView s .actors)) (sysView (withParts s network actors)))
+  pub same : systems (wakeAll base 0 (sysView s .actors) (sysView s)) ≡ systems
+      (wakeAll base i (drop i (sysView s .actors)) (sysView (withParts s network actors)))
 
 pub wakes-begin : (s : System) → Awaiting s → Waking s 0 (s .network) (s .actors)
 wakes-begin s a = record { awaits = a; same = refl }
@@ -116,7 +119,7 @@ wakes-begin s a = record { awaits = a; same = refl }
 pub many : (s : System) → Ready s → s .count ≡ length (sysView s .actors)
 many s r = counted s (r .laid) (r .formed)
 
-pub few : (s : System) → Ready s → s .count ≤ 8
+pub few : (s : System) → Ready s → s .count ≤ mostActors
 few s r = let c = many s r in let h = formed-of (sysView s) (r .formed) .few in omega arith
 
 module _ (s : System) (i : ℕ) (network : Network) (actors : List Actor) (first : Awaiting s) (g : Waking s i network actors) (h : i < s .count) where
@@ -174,7 +177,8 @@ module _ (s : System) (i : ℕ) (network : Network) (actors : List Actor) (first
     answered = ap (λ (x : Touched). isDone (x .answer)) seen ∙ ap isDone (touched-answer network a out)
 
     pub wakes-stop : isDone (w .answer) ≡ false
-        → _≡_ {A = Answered} (record { answer = w .answer; system = systemOf blank }) (answeredOf (systemOf blank) (systems (wakeAll base 0 (sysView s .actors) (sysView s))))
+        → _≡_ {A = Answered} (record { answer = w .answer; system = systemOf blank })
+        (answeredOf (systemOf blank) (systems (wakeAll base 0 (sysView s .actors) (sysView s))))
     unfolding bind mapped
     wakes-stop e =
         let q = refused-of out (sym answered ∙ e) in
@@ -195,12 +199,14 @@ module _ (s : System) (i : ℕ) (network : Network) (actors : List Actor) (first
         ap (λ (y : Touched). withParts s (y .network) (set actors i (y .actor))) x ∙ put-system here (g .awaits .ready) id h p r in
         record {
           awaits = subst Awaiting (sym z) (image-awaits (putBack id m p) (f .formed) (f .live));
-          same = next ∙ ap (λ (o : Outcome Part). bind (mapped (putBack id m) o) rest) (q .1) ∙ ap rest (sym (ap sysView z ∙ system-back (putBack id m p) (f .formed)));
+          same = next ∙ ap (λ (o : Outcome Part). bind (mapped (putBack id m) o) rest) (q .1)
+              ∙ ap rest (sym (ap sysView z ∙ system-back (putBack id m p) (f .formed)));
         }
 
 -- After the last.
 pub wakes-end : (s : System) (i : ℕ) (network : Network) (actors : List Actor) → Awaiting s → Waking s i network actors → s .count ≤ i
-    → _≡_ {A = Answered} (record { answer = Done; system = withParts s network actors }) (answeredOf (systemOf blank) (systems (wakeAll base 0 (sysView s .actors) (sysView s))))
+    → _≡_ {A = Answered} (record { answer = Done; system = withParts s network actors })
+    (answeredOf (systemOf blank) (systems (wakeAll base 0 (sysView s .actors) (sysView s))))
 unfolding wakeAll ended systems answerOf
 wakes-end s i network actors first g h =
     let c = many s (first .ready) in

@@ -6,6 +6,7 @@ use mathlib.Core.Bool.{Bool, false, _&&_}
 use mathlib.Core.List.{List, [], _∷_, map}
 use lib.ListN.{take}
 use lib.Dec.{leb}
+use Rattle.types.specs.Capacities.{mostEntries, mostActors}
 use Rattle.lists.specs.Lists.{all, every}
 use Rattle.types.specs.declared.Id.{Id}
 use Rattle.types.specs.declared.Envelope.{Envelope}
@@ -34,7 +35,7 @@ tablesView count tables = map rulesOf (take count tables)
 
 -- The counts fit, and each of the first `count` tables is laid out.
 unfoldable pub startLaid : ℕ → List Table → Given → Bool
-startLaid count tables g = every (leb count 8 ∷ all tableLaid (take count tables) ∷ leb (g .used) 128 ∷ [])
+startLaid count tables g = every (leb count mostActors ∷ all tableLaid (take count tables) ∷ leb (g .used) mostEntries ∷ [])
 
 -- The start: 10 for what the lists cannot show, then what the rules say.
 unfoldable pub started : ℕ → ℕ → List Table → Given → Outcome Sys

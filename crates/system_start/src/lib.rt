@@ -16,10 +16,13 @@ use system_parts::Answered;
 use types::Envelope;
 use types::Id;
 use types::Kind;
+use types::MOST_ACTORS;
+use types::MOST_ENTRIES;
 ghost use mathlib.Core.Path.{_≡_};
 ghost use mathlib.Core.List.{[]};
 ghost use Prim.Native.Nat.{_≤_};
 ghost use lib.ListN.{take, replicate};
+ghost use Rattle.types.specs.Capacities.{mostActors, mostEntries};
 ghost use Rattle.lists.specs.Lists.{all, pad};
 ghost use Rattle.rules.specs.Outcome.{base};
 ghost use Rattle.rules.specs.Network.{kindOf};
@@ -33,9 +36,9 @@ ghost use Rattle.system.specs.Views.{zeroTable, sysView, systemOf};
 ghost use Rattle.system_parts.specs.Views.{answeredOf};
 ghost use Rattle.system_start.specs.Views.{givenView, startFine, emptyNet, sendAll, Awaiting, started};
 
-// The given envelopes. A count beyond 128 is refused as 10.
+// The given envelopes. A count beyond their places is refused as 10.
 pub struct Given {
-    pub list: [Envelope; 128],
+    pub list: [Envelope; MOST_ENTRIES],
     pub used: usize,
 }
 
@@ -46,8 +49,8 @@ fn source_known(e: Envelope, count: usize) -> bool
     (e.src.0 as usize) < count
 }
 
-fn sources_known(list: [Envelope; 128], used: usize, count: usize) -> bool
-    requires { ⌜ used ≤ 128 ⌝ }
+fn sources_known(list: [Envelope; MOST_ENTRIES], used: usize, count: usize) -> bool
+    requires { ⌜ used ≤ mostEntries ⌝ }
     ensures { λ r. ⌜ r ≡ all (sourceKnown count) (take used list) ⌝ }
 {
     let mut i = 0;
@@ -62,13 +65,13 @@ fn sources_known(list: [Envelope; 128], used: usize, count: usize) -> bool
 }
 
 // Each count before the walk that it bounds.
-fn startable(kind: u8, count: usize, tables: [Table; 8], given: Given) -> bool
+fn startable(kind: u8, count: usize, tables: [Table; MOST_ACTORS], given: Given) -> bool
     ensures { λ r. ⌜ r ≡ startFine kind count tables given ⌝ }
 {
     if count < 1 {
         return false;
     }
-    if 8 < count {
+    if MOST_ACTORS < count {
         return false;
     }
     if 2 < kind {
@@ -79,7 +82,7 @@ fn startable(kind: u8, count: usize, tables: [Table; 8], given: Given) -> bool
     }
     let list = given.list;
     let used = given.used;
-    if 128 < used {
+    if MOST_ENTRIES < used {
         return false;
     }
     sources_known(list, used, count)
@@ -115,13 +118,13 @@ fn fresh_actor() -> Actor
 }
 
 // So many fresh ones, then zero ones.
-fn fresh_actors(count: usize) -> [Actor; 8]
-    requires { ⌜ count ≤ 8 ⌝ }
-    ensures { λ r. ⌜ r ≡ pad 8 zeroActor (replicate count (actorAs (unstarted []))) ⌝ }
+fn fresh_actors(count: usize) -> [Actor; MOST_ACTORS]
+    requires { ⌜ count ≤ mostActors ⌝ }
+    ensures { λ r. ⌜ r ≡ pad mostActors zeroActor (replicate count (actorAs (unstarted []))) ⌝ }
 {
     let zero = zero_actor();
     let fresh = fresh_actor();
-    let mut actors = [zero; 8];
+    let mut actors = [zero; MOST_ACTORS];
     let mut i = 0;
     while i < count {
         actors[i] = fresh;
@@ -131,12 +134,12 @@ fn fresh_actors(count: usize) -> [Actor; 8]
 }
 
 // The first ones, then zero ones: a table at or above the count is not looked at.
-fn first_tables(tables: [Table; 8], count: usize) -> [Table; 8]
-    requires { ⌜ count ≤ 8 ⌝ }
-    ensures { λ r. ⌜ r ≡ pad 8 zeroTable (take count tables) ⌝ }
+fn first_tables(tables: [Table; MOST_ACTORS], count: usize) -> [Table; MOST_ACTORS]
+    requires { ⌜ count ≤ mostActors ⌝ }
+    ensures { λ r. ⌜ r ≡ pad mostActors zeroTable (take count tables) ⌝ }
 {
     let zero = zero_table();
-    let mut own = [zero; 8];
+    let mut own = [zero; MOST_ACTORS];
     let mut i = 0;
     while i < count {
         let here = tables[i];
@@ -148,8 +151,8 @@ fn first_tables(tables: [Table; 8], count: usize) -> [Table; 8]
 
 // ---- the given envelopes: 8
 // All of them, or the first refusal with the network that came.
-fn fill(n: Network, list: [Envelope; 128], used: usize) -> Sent
-    requires { ⌜ NetReady n × (used ≤ 128) ⌝ }
+fn fill(n: Network, list: [Envelope; MOST_ENTRIES], used: usize) -> Sent
+    requires { ⌜ NetReady n × (used ≤ mostEntries) ⌝ }
     ensures { λ r. ⌜ r ≡ sentOf n (sendAll (base .room) (take used list) (netView n)) ⌝ }
 {
     let mut net = n;
@@ -176,7 +179,7 @@ fn fill(n: Network, list: [Envelope; 128], used: usize) -> Sent
 
 // The network of a kind with the given envelopes.
 fn filled(kind: u8, given: Given) -> Sent
-    requires { ⌜ given .used ≤ 128 ⌝ }
+    requires { ⌜ given .used ≤ mostEntries ⌝ }
     ensures { λ r. ⌜ r ≡ sentOf (networkOf (emptyNet (kindOf kind))) (sendAll (base .room) (givenView given) (emptyNet (kindOf kind))) ⌝ }
 {
     let k = kind_of(kind);
@@ -238,7 +241,7 @@ fn refused(answer: Answer) -> Answered
     }
 }
 
-pub fn start(kind: u8, count: usize, tables: [Table; 8], given: Given) -> Answered
+pub fn start(kind: u8, count: usize, tables: [Table; MOST_ACTORS], given: Given) -> Answered
     ensures { λ r. ⌜ r ≡ answeredOf (systemOf rules.blank) (started kind count tables given) ⌝ }
 {
     if !startable(kind, count, tables, given) {

@@ -8,6 +8,7 @@ use mathlib.Core.List.{List, [], _∷_, map}
 use lib.ListN.{length, getD, length-map}
 use lib.Dec.{ltb}
 use borrow.Author.Tests.{ltb-true}
+use Rattle.types.specs.Capacities.{mostActors}
 use Rattle.lists.specs.Lists.{choose, every}
 use Rattle.lists.proofs.Members.{not-true, every-cons}
 use Rattle.lists.proofs.Places.{length-pad}
@@ -72,7 +73,7 @@ module _ (s : System) (r : Ready s) (a : Action) where
   pub some : 1 ≤ s .count
   some = let z = formed-of m (r .formed) .one in let c = counted s (r .laid) (r .formed) in omega arith
 
-  pub few : s .count ≤ 8
+  pub few : s .count ≤ mostActors
   few = let z = formed-of m (r .formed) .few in let c = counted s (r .laid) (r .formed) in omega arith
 
   abbrev i : Id
@@ -101,9 +102,11 @@ module _ (s : System) (r : Ready s) (a : Action) where
       }
 
   -- What the core answered, put back.
-  stepped : (o : Outcome Part) (x : Touched) → x ≡ touchedOf (s .network) actor o → Among refusal o → Holds (Ruled (rules.actor m i .rules)) o → putTouched s (i .0) x ≡ answeredOf s (mapped (putBack i m) o)
+  stepped : (o : Outcome Part) (x : Touched) → x ≡ touchedOf (s .network) actor o → Among refusal o → Holds (Ruled (rules.actor m i .rules)) o
+      → putTouched s (i .0) x ≡ answeredOf s (mapped (putBack i m) o)
   unfolding Among mapped choose answerOf
-  stepped (done p) x e k z = ap (putTouched s (i .0)) e ∙ (let w = put-system s r i inside p (z .value p refl .rules) in λ j. record { answer = Done; system = w j })
+  stepped (done p) x e k z = ap (putTouched s (i .0)) e ∙ (let w = put-system s r i inside p (z .value p refl .rules) in
+      λ j. record { answer = Done; system = w j })
   stepped (refused n) x e k z = ap (putTouched s (i .0)) e ∙ rw (not-true (isDone (answerOf n)) k)
 
   abbrev outcome : Outcome Part
@@ -125,24 +128,29 @@ module _ (s : System) (r : Ready s) (a : Action) where
       ap (answeredOf s) (sym (act-parts base m i a k))
 
   -- What the core answered, written back whatever the answer: a refusal's network and actor are those that came.
-  kept : (o : Outcome Part) (x : Touched) → x ≡ touchedOf (s .network) actor o → Holds (Ruled (rules.actor m i .rules)) o → writtenBack s (i .0) x ≡ answeredOf s (mapped (putBack i m) o)
+  kept : (o : Outcome Part) (x : Touched) → x ≡ touchedOf (s .network) actor o → Holds (Ruled (rules.actor m i .rules)) o
+      → writtenBack s (i .0) x ≡ answeredOf s (mapped (putBack i m) o)
   unfolding mapped
-  kept (done p) x e z = ap (writtenBack s (i .0)) e ∙ (let w = put-system s r i inside p (z .value p refl .rules) in λ j. record { answer = answerOf 0; system = w j })
-  kept (refused n) x e z = ap (writtenBack s (i .0)) e ∙ (let w = set-get (s .actors) (i .0) zeroActor in λ j. record { answer = answerOf n; system = record { count = s .count; network = s .network; actors = w j; tables = s .tables } })
+  kept (done p) x e z = ap (writtenBack s (i .0)) e ∙ (let w = put-system s r i inside p (z .value p refl .rules) in
+      λ j. record { answer = answerOf 0; system = w j })
+  kept (refused n) x e z = ap (writtenBack s (i .0)) e ∙ (let w = set-get (s .actors) (i .0) zeroActor in
+      λ j. record { answer = answerOf n; system = record { count = s .count; network = s .network; actors = w j; tables = s .tables } })
 
   -- ---- as the code reads them: whatever stands beyond the arrays
   module _ (k : ℕ) (here : k ≡ seat (s .count) a) (d : Actor) (e : Table) where
-    pub below : k < 8
+    pub below : k < mostActors
     below = let h = inside in let f = few in omega arith
 
     same-actor : getD (s .actors) k d ≡ actor
     same-actor =
-        let n = ap (λ (x : System). length (x .actors)) (r .laid) ∙ length-pad 8 zeroActor (map actorAs (m .actors)) (let z = formed-of m (r .formed) .few in let q = length-map (m .actors) actorAs in omega arith) in
+        let n = ap (λ (x : System). length (x .actors)) (r .laid) ∙ length-pad mostActors zeroActor (map actorAs (m .actors))
+        (let z = formed-of m (r .formed) .few in let q = length-map (m .actors) actorAs in omega arith) in
         get-same (s .actors) k d zeroActor (let b = below in omega arith) ∙ ap (λ (j : ℕ). getD (s .actors) j zeroActor) here
 
     same-table : getD (s .tables) k e ≡ table
     same-table =
-        let n = ap (λ (x : System). length (x .tables)) (r .laid) ∙ length-pad 8 zeroTable (map tableFor (m .actors)) (let z = formed-of m (r .formed) .few in let q = length-map (m .actors) tableFor in omega arith) in
+        let n = ap (λ (x : System). length (x .tables)) (r .laid) ∙ length-pad mostActors zeroTable (map tableFor (m .actors))
+        (let z = formed-of m (r .formed) .few in let q = length-map (m .actors) tableFor in omega arith) in
         get-same (s .tables) k e zeroTable (let b = below in omega arith) ∙ ap (λ (j : ℕ). getD (s .tables) j zeroTable) here
 
     -- What the core asks.
@@ -150,9 +158,11 @@ module _ (s : System) (r : Ready s) (a : Action) where
     part-ready = rw (same-actor, same-table) part-there
 
     -- What it answers, put back or written back, is the rules' action.
-    module _ (x : Touched) (f : x ≡ touchedOf (s .network) (getD (s .actors) k d) (actPart base (s .count) a (partView (rulesOf (getD (s .tables) k e)) (s .network) (getD (s .actors) k d)))) where
+    module _ (x : Touched) (f : x ≡ touchedOf (s .network) (getD (s .actors) k d)
+        (actPart base (s .count) a (partView (rulesOf (getD (s .tables) k e)) (s .network) (getD (s .actors) k d)))) where
       here-touched : x ≡ touchedOf (s .network) actor outcome
-      here-touched = f ∙ (λ j. touchedOf (s .network) (same-actor j) (actPart base (s .count) a (partView (rulesOf (same-table j)) (s .network) (same-actor j)))) ∙ ap (touchedOf (s .network) actor) same-outcome
+      here-touched = f ∙ (λ j. touchedOf (s .network) (same-actor j) (actPart base (s .count) a
+          (partView (rulesOf (same-table j)) (s .network) (same-actor j)))) ∙ ap (touchedOf (s .network) actor) same-outcome
 
       pub act-done : putTouched s k x ≡ answeredOf s (systems (rules.act base m a))
       unfolding answerOf
@@ -186,14 +196,16 @@ unfolding systemFine stepOf step
 passes s a e = granted-by _ _ _ e
 
 -- ---- a step leaves a system that is laid out and well formed
-next-ready : (s : System) (a : Action) (o : Outcome rules.Next) → Ready s → Holds (λ (x : rules.Next). wellFormed base (x .sys) ≡ true) o → Ready (answeredOf s (systems o) .system)
+next-ready : (s : System) (a : Action) (o : Outcome rules.Next) → Ready s → Holds (λ (x : rules.Next). wellFormed base (x .sys) ≡ true) o
+    → Ready (answeredOf s (systems o) .system)
 unfolding systems
 next-ready s a (done x) r h = let w = h .value x refl in record { laid = image-laid (x .sys) w; formed = rw (system-back (x .sys) w) w }
 next-ready s a (refused k) r h = r
 
 pub act-keeps : (s : System) (a : Action) → Ready s → Ready (answeredOf s (systems (rules.act base (sysView s) a)) .system)
 unfolding step
-act-keeps s a r = next-ready s a (rules.act base (sysView s) a) r (subst (Holds (λ (x : rules.Next). wellFormed base (x .sys) ≡ true)) (guarded _ 9 _ (r .formed)) (step-formed base (sysView s) a))
+act-keeps s a r = next-ready s a (rules.act base (sysView s) a) r (subst (Holds (λ (x : rules.Next). wellFormed base (x .sys) ≡ true))
+    (guarded _ 9 _ (r .formed)) (step-formed base (sysView s) a))
 
 -- What the test found.
 pub fine-ready : (s : System) → systemFine s ≡ true → SystemLaid s → Ready s

@@ -10,6 +10,7 @@ use system_parts::Answered;
 use types::Action;
 ghost use mathlib.Core.Path.{_≡_};
 ghost use Prim.Native.Nat.{_<_};
+ghost use Rattle.types.specs.Capacities.{mostActors};
 ghost use Rattle.rules.specs.Outcome.{base};
 ghost use Rattle.rules.specs.System.{act};
 ghost use Rattle.system.specs.Views.{sysView};
@@ -19,7 +20,7 @@ ghost use Rattle.system_step.specs.Views.{putTouched, stepOf};
 
 // Network and actor are put back in their places; a refusal hands back the system that came.
 fn put_back(s: System, i: usize, t: Touched) -> Answered
-    requires { ⌜ i < 8 ⌝ }
+    requires { ⌜ i < mostActors ⌝ }
     ensures { λ r. ⌜ r ≡ putTouched s i t ⌝ }
 {
     let answer = t.answer;

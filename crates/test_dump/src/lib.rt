@@ -1,33 +1,182 @@
 // For tests only: every field of a whole system as bytes, used places or not, but for its tables. The widths are fixed, so
-// that systems which differ have different bytes. Each function writes from a place on, and answers the place after it.
+// that systems which differ have different bytes.
 use link_durable::Durable;
-use link_durable::Pendings;
-use link_durable::Stored;
-use link_durable::Taken;
-use link_handlers::Link;
 use net_network::Network;
 use sys_actor::Actor;
 use system::System;
-use types::Entry;
 use types::Envelope;
 use types::Kind;
 use types::LastMessage;
+use types::MOST_ACTORS;
+use types::MOST_ENTRIES;
+use types::MOST_PENDING;
 use types::Message;
-use types::Number;
-use types::Pending;
 use types::Storage;
 ghost use mathlib.Core.Path.{_≡_};
-ghost use mathlib.Core.List.{_++_};
 ghost use Prim.Native.Nat.{_+_, _≤_};
-ghost use lib.ListN.{length, take, drop};
-ghost use Rattle.test_dump.specs.Bytes.{big, flag, each, messageBytes, envelopeBytes, entryBytes, lastBytes, kindNumber, networkBytes, pendingBytes, pendingsBytes, numberBytes, takenBytes, storageBytes, durableBytes, linkBytes, storedBytes, actorBytes, systemBytes, Filled};
+ghost use lib.ListN.{length};
 
-// ---- numbers
-// The high byte first.
-fn put_number(out: &mut [u8], at: usize, width: usize, n: u64) -> usize
-    requires { ⌜ at + width ≤ length (now out) ⌝ }
-    ensures { λ r. ⌜ Filled at width (big width n) (now (out .entry)) r (now (out .exit)) ⌝ }
-{
+// The bytes of a system.
+pub const SIZE: usize = 10409;
+
+// How many pieces stand for the network with the count of actors, for a durable part, and for an actor.
+const NETWORK_PIECES: usize = MOST_ENTRIES + 2;
+
+const DURABLE_PIECES: usize = MOST_PENDING + MOST_ACTORS + 3;
+
+const ACTOR_PIECES: usize = 2 * DURABLE_PIECES + 2;
+
+// Some numbers, and in how many bytes each is written.
+struct Piece {
+    n: [u64; 7],
+    width: [usize; 7],
+}
+
+// ---- the pieces of the network
+// An envelope, behind a mark and before a count, each of its own width.
+fn envelope_piece(marked: usize, e: Envelope, counted: usize, count: u64) -> Piece {
+    let m = e.msg;
+    let src = e.src.0 as u64;
+    let dst = e.dst.0 as u64;
+    let width = [marked, 1, 1, 1, 8, 4, counted];
+    match m {
+        Message::Deliver(n, p) => Piece {
+            n: [1, src, dst, 0, n.0, p.0 as u64, count],
+            width: width,
+        },
+        Message::Ack(n) => Piece {
+            n: [1, src, dst, 1, n.0, 0, count],
+            width: width,
+        },
+    }
+}
+
+// A mark, and the envelope or as many zeros.
+fn last_piece(last: LastMessage) -> Piece {
+    match last {
+        LastMessage::Nothing => Piece {
+            n: [0; 7],
+            width: [1, 1, 1, 1, 8, 4, 0],
+        },
+        LastMessage::Delivered(e) => envelope_piece(1, e, 0, 0),
+    }
+}
+
+fn kind_number(kind: Kind) -> u64 {
+    match kind {
+        Kind::Ordered => 0,
+        Kind::UnorderedDuplicating => 1,
+        Kind::UnorderedNonDuplicating => 2,
+    }
+}
+
+// Counts, then the entries, then the last message.
+fn network_piece(count: usize, n: Network, k: usize) -> Piece {
+    let kind = n.kind;
+    let entries = n.entries;
+    let last = n.last;
+    if k == 0 {
+        return Piece {
+            n: [count as u64, kind_number(kind), n.used as u64, 0, 0, 0, 0],
+            width: [8, 1, 8, 0, 0, 0, 0],
+        };
+    }
+    if MOST_ENTRIES < k {
+        return last_piece(last);
+    }
+    let x = entries[k - 1];
+    let e = x.envelope;
+    envelope_piece(0, e, 2, x.count as u64)
+}
+
+// ---- the pieces of an actor
+fn one(n: u64) -> Piece {
+    Piece {
+        n: [n, 0, 0, 0, 0, 0, 0],
+        width: [8, 0, 0, 0, 0, 0, 0],
+    }
+}
+
+fn storage_piece(x: Storage) -> Piece {
+    let width = [1, 4, 0, 0, 0, 0, 0];
+    match x {
+        Storage::Nothing => Piece {
+            n: [0; 7],
+            width: width,
+        },
+        Storage::Value(v) => Piece {
+            n: [1, v as u64, 0, 0, 0, 0, 0],
+            width: width,
+        },
+    }
+}
+
+// The next number and the count of pending messages, those messages, the count of taken numbers, those numbers, the value.
+fn durable_piece(d: Durable, k: usize) -> Piece {
+    let records = d.pending.records;
+    let last = d.taken.last;
+    let inner = d.inner;
+    if k == 0 {
+        return Piece {
+            n: [d.next.0, d.pending.used as u64, 0, 0, 0, 0, 0],
+            width: [8, 8, 0, 0, 0, 0, 0],
+        };
+    }
+    if k <= MOST_PENDING {
+        let q = records[k - 1];
+        return Piece {
+            n: [q.number.0, q.dst.0 as u64, q.payload.0 as u64, 0, 0, 0, 0],
+            width: [8, 1, 4, 0, 0, 0, 0],
+        };
+    }
+    if k == MOST_PENDING + 1 {
+        return one(d.taken.used as u64);
+    }
+    if k <= MOST_PENDING + 1 + MOST_ACTORS {
+        let t = last[k - MOST_PENDING - 2];
+        return one(t.0);
+    }
+    storage_piece(inner)
+}
+
+fn flag_of(b: bool) -> u64 {
+    if b {
+        return 1;
+    }
+    0
+}
+
+// The mark and the timers, the live part, the state and the mark of the store, the stored part.
+fn actor_piece(x: Actor, k: usize) -> Piece {
+    let live = x.link.durable;
+    let stored = x.stored.durable;
+    if k == 0 {
+        return Piece {
+            n: [flag_of(x.crashed), x.timers.0 as u64, 0, 0, 0, 0, 0],
+            width: [1, 4, 0, 0, 0, 0, 0],
+        };
+    }
+    if k <= DURABLE_PIECES {
+        return durable_piece(live, k - 1);
+    }
+    if k == DURABLE_PIECES + 1 {
+        return Piece {
+            n: [x.link.state as u64, flag_of(x.stored.some), 0, 0, 0, 0, 0],
+            width: [1, 1, 0, 0, 0, 0, 0],
+        };
+    }
+    durable_piece(stored, k - DURABLE_PIECES - 2)
+}
+
+// ---- writing, from a place on, and the place after it
+// The high byte first. Where there is no room nothing is written: `dump` asks for the room of all.
+fn put_number(out: &mut [u8], at: usize, width: usize, n: u64) -> usize {
+    if out.len() < width {
+        return at;
+    }
+    if out.len() - width < at {
+        return at;
+    }
     let mut rest = n;
     let mut i = width;
     while 0 < i {
@@ -38,249 +187,38 @@ fn put_number(out: &mut [u8], at: usize, width: usize, n: u64) -> usize
     at + width
 }
 
-fn flag_of(b: bool) -> u64
-    ensures { λ r. ⌜ r ≡ flag b ⌝ }
-{
-    if b {
-        return 1;
-    }
-    0
-}
-
-// ---- the network
-// A tag, a number and a payload.
-fn put_parts(out: &mut [u8], at: usize, tag: u64, number: u64, payload: u64) -> usize
-    requires { ⌜ at + 13 ≤ length (now out) ⌝ }
-    ensures { λ r. ⌜ Filled at 13 (big 1 tag ++ (big 8 number ++ big 4 payload)) (now (out .entry)) r (now (out .exit)) ⌝ }
-{
-    let a = put_number(out, at, 1, tag);
-    let b = put_number(out, a, 8, number);
-    put_number(out, b, 4, payload)
-}
-
-fn put_message(out: &mut [u8], at: usize, m: Message) -> usize
-    requires { ⌜ at + 13 ≤ length (now out) ⌝ }
-    ensures { λ r. ⌜ Filled at 13 (messageBytes m) (now (out .entry)) r (now (out .exit)) ⌝ }
-{
-    match m {
-        Message::Deliver(n, p) => put_parts(out, at, 0, n.0, p.0 as u64),
-        Message::Ack(n) => put_parts(out, at, 1, n.0, 0),
-    }
-}
-
-fn put_envelope(out: &mut [u8], at: usize, e: Envelope) -> usize
-    requires { ⌜ at + 15 ≤ length (now out) ⌝ }
-    ensures { λ r. ⌜ Filled at 15 (envelopeBytes e) (now (out .entry)) r (now (out .exit)) ⌝ }
-{
-    let m = e.msg;
-    let a = put_number(out, at, 1, e.src.0 as u64);
-    let b = put_number(out, a, 1, e.dst.0 as u64);
-    put_message(out, b, m)
-}
-
-fn put_entry(out: &mut [u8], at: usize, x: Entry) -> usize
-    requires { ⌜ at + 17 ≤ length (now out) ⌝ }
-    ensures { λ r. ⌜ Filled at 17 (entryBytes x) (now (out .entry)) r (now (out .exit)) ⌝ }
-{
-    let e = x.envelope;
-    let a = put_envelope(out, at, e);
-    put_number(out, a, 2, x.count as u64)
-}
-
-fn put_entries(out: &mut [u8], at: usize, entries: [Entry; 128]) -> usize
-    requires { ⌜ at + 2176 ≤ length (now out) ⌝ }
-    ensures { λ r. ⌜ Filled at 2176 (each entryBytes entries) (now (out .entry)) r (now (out .exit)) ⌝ }
-{
+fn put(out: &mut [u8], at: usize, p: Piece) -> usize {
+    let numbers = p.n;
+    let widths = p.width;
     let mut next = at;
     let mut i = 0;
-    while i < 128 {
-        let x = entries[i];
-        next = put_entry(out, next, x);
-        i += 1;
-    }
-    next
-}
-
-fn put_last(out: &mut [u8], at: usize, last: LastMessage) -> usize
-    requires { ⌜ at + 16 ≤ length (now out) ⌝ }
-    ensures { λ r. ⌜ Filled at 16 (lastBytes last) (now (out .entry)) r (now (out .exit)) ⌝ }
-{
-    match last {
-        LastMessage::Nothing => {
-            let a = put_number(out, at, 1, 0);
-            put_number(out, a, 15, 0)
-        }
-        LastMessage::Delivered(e) => {
-            let a = put_number(out, at, 1, 1);
-            put_envelope(out, a, e)
-        }
-    }
-}
-
-fn kind_number(kind: Kind) -> u64
-    ensures { λ r. ⌜ r ≡ kindNumber kind ⌝ }
-{
-    match kind {
-        Kind::Ordered => 0,
-        Kind::UnorderedDuplicating => 1,
-        Kind::UnorderedNonDuplicating => 2,
-    }
-}
-
-fn put_network(out: &mut [u8], at: usize, n: Network) -> usize
-    requires { ⌜ at + 2201 ≤ length (now out) ⌝ }
-    ensures { λ r. ⌜ Filled at 2201 (networkBytes n) (now (out .entry)) r (now (out .exit)) ⌝ }
-{
-    let kind = n.kind;
-    let entries = n.entries;
-    let last = n.last;
-    let k = kind_number(kind);
-    let a = put_number(out, at, 1, k);
-    let b = put_number(out, a, 8, n.used as u64);
-    let c = put_entries(out, b, entries);
-    put_last(out, c, last)
-}
-
-// ---- the actors
-fn put_pending(out: &mut [u8], at: usize, q: Pending) -> usize
-    requires { ⌜ at + 13 ≤ length (now out) ⌝ }
-    ensures { λ r. ⌜ Filled at 13 (pendingBytes q) (now (out .entry)) r (now (out .exit)) ⌝ }
-{
-    let a = put_number(out, at, 8, q.number.0);
-    let b = put_number(out, a, 1, q.dst.0 as u64);
-    put_number(out, b, 4, q.payload.0 as u64)
-}
-
-fn put_records(out: &mut [u8], at: usize, records: [Pending; 32]) -> usize
-    requires { ⌜ at + 416 ≤ length (now out) ⌝ }
-    ensures { λ r. ⌜ Filled at 416 (each pendingBytes records) (now (out .entry)) r (now (out .exit)) ⌝ }
-{
-    let mut next = at;
-    let mut i = 0;
-    while i < 32 {
-        let q = records[i];
-        next = put_pending(out, next, q);
-        i += 1;
-    }
-    next
-}
-
-fn put_pendings(out: &mut [u8], at: usize, p: Pendings) -> usize
-    requires { ⌜ at + 424 ≤ length (now out) ⌝ }
-    ensures { λ r. ⌜ Filled at 424 (pendingsBytes p) (now (out .entry)) r (now (out .exit)) ⌝ }
-{
-    let records = p.records;
-    let a = put_number(out, at, 8, p.used as u64);
-    put_records(out, a, records)
-}
-
-fn put_numbers(out: &mut [u8], at: usize, numbers: [Number; 8]) -> usize
-    requires { ⌜ at + 64 ≤ length (now out) ⌝ }
-    ensures { λ r. ⌜ Filled at 64 (each numberBytes numbers) (now (out .entry)) r (now (out .exit)) ⌝ }
-{
-    let mut next = at;
-    let mut i = 0;
-    while i < 8 {
+    while i < 7 {
         let n = numbers[i];
-        next = put_number(out, next, 8, n.0);
+        let width = widths[i];
+        next = put_number(out, next, width, n);
         i += 1;
     }
     next
 }
 
-fn put_taken(out: &mut [u8], at: usize, t: Taken) -> usize
-    requires { ⌜ at + 72 ≤ length (now out) ⌝ }
-    ensures { λ r. ⌜ Filled at 72 (takenBytes t) (now (out .entry)) r (now (out .exit)) ⌝ }
-{
-    let last = t.last;
-    let a = put_number(out, at, 8, t.used as u64);
-    put_numbers(out, a, last)
-}
-
-fn put_storage(out: &mut [u8], at: usize, x: Storage) -> usize
-    requires { ⌜ at + 5 ≤ length (now out) ⌝ }
-    ensures { λ r. ⌜ Filled at 5 (storageBytes x) (now (out .entry)) r (now (out .exit)) ⌝ }
-{
-    match x {
-        Storage::Nothing => {
-            let a = put_number(out, at, 1, 0);
-            put_number(out, a, 4, 0)
-        }
-        Storage::Value(v) => {
-            let a = put_number(out, at, 1, 1);
-            put_number(out, a, 4, v as u64)
-        }
-    }
-}
-
-fn put_durable(out: &mut [u8], at: usize, d: Durable) -> usize
-    requires { ⌜ at + 509 ≤ length (now out) ⌝ }
-    ensures { λ r. ⌜ Filled at 509 (durableBytes d) (now (out .entry)) r (now (out .exit)) ⌝ }
-{
-    let pending = d.pending;
-    let taken = d.taken;
-    let inner = d.inner;
-    let a = put_number(out, at, 8, d.next.0);
-    let b = put_pendings(out, a, pending);
-    let c = put_taken(out, b, taken);
-    put_storage(out, c, inner)
-}
-
-fn put_link(out: &mut [u8], at: usize, l: Link) -> usize
-    requires { ⌜ at + 510 ≤ length (now out) ⌝ }
-    ensures { λ r. ⌜ Filled at 510 (linkBytes l) (now (out .entry)) r (now (out .exit)) ⌝ }
-{
-    let d = l.durable;
-    let a = put_durable(out, at, d);
-    put_number(out, a, 1, l.state as u64)
-}
-
-fn put_stored(out: &mut [u8], at: usize, s: Stored) -> usize
-    requires { ⌜ at + 510 ≤ length (now out) ⌝ }
-    ensures { λ r. ⌜ Filled at 510 (storedBytes s) (now (out .entry)) r (now (out .exit)) ⌝ }
-{
-    let d = s.durable;
-    let some = flag_of(s.some);
-    let a = put_number(out, at, 1, some);
-    put_durable(out, a, d)
-}
-
-fn put_actor(out: &mut [u8], at: usize, x: Actor) -> usize
-    requires { ⌜ at + 1025 ≤ length (now out) ⌝ }
-    ensures { λ r. ⌜ Filled at 1025 (actorBytes x) (now (out .entry)) r (now (out .exit)) ⌝ }
-{
-    let link = x.link;
-    let stored = x.stored;
-    let crashed = flag_of(x.crashed);
-    let a = put_number(out, at, 1, crashed);
-    let b = put_number(out, a, 4, x.timers.0 as u64);
-    let c = put_link(out, b, link);
-    put_stored(out, c, stored)
-}
-
-fn put_actors(out: &mut [u8], at: usize, actors: [Actor; 8]) -> usize
-    requires { ⌜ at + 8200 ≤ length (now out) ⌝ }
-    ensures { λ r. ⌜ Filled at 8200 (each actorBytes actors) (now (out .entry)) r (now (out .exit)) ⌝ }
-{
-    let mut next = at;
-    let mut i = 0;
-    while i < 8 {
-        let a = actors[i];
-        next = put_actor(out, next, a);
-        i += 1;
-    }
-    next
-}
-
-// ---- the system
 pub fn dump(out: &mut [u8], at: usize, s: System) -> usize
     requires { ⌜ at + 10409 ≤ length (now out) ⌝ }
-    ensures next { λ r. ⌜ r ≡ at + 10409 ⌝ }
-    ensures bytes { λ r. ⌜ now (out .exit) ≡ take at (now (out .entry)) ++ (systemBytes s ++ drop r (now (out .entry))) ⌝ }
+    ensures { λ r. ⌜ r ≡ at + 10409 ⌝ }
 {
+    let count = s.count;
     let network = s.network;
     let actors = s.actors;
-    let a = put_number(out, at, 8, s.count as u64);
-    let b = put_network(out, a, network);
-    put_actors(out, b, actors)
+    let mut next = at;
+    let mut k = 0;
+    while k < NETWORK_PIECES {
+        next = put(out, next, network_piece(count, network, k));
+        k += 1;
+    }
+    k = 0;
+    while k < MOST_ACTORS * ACTOR_PIECES {
+        let x = actors[k / ACTOR_PIECES];
+        next = put(out, next, actor_piece(x, k % ACTOR_PIECES));
+        k += 1;
+    }
+    at + SIZE
 }

@@ -1,25 +1,38 @@
-// For tests only: small well-formed systems, changes by value that make them ill formed, one thing at a time, and what a
-// step answers to them.
-use answers::number_of;
-use check::same;
+// For tests only: a system of two actors, most of it zero, in which some numbers are changed. A way names them: each has a
+// letter, and its value stands behind that, as in "a9 i129". Those that are not named are 0, but for a 2, F 1 and I 1.
+//
+// a       how many actors                         A       the place of the changed actor
+// b       the network's kind                      B C D   crashed, its timers, its inner state
+// c d e   first entry: source, number, count      E       whether something is stored
+// f g h   second entry, alike                     F       the next number of the actors 0 and 1
+// i       how many entries                        G H     1 above the inner value, live and stored
+// j       last message: 1 above its source        I       the link's next number
+// k l     the table's place, how many rules       J K L   pending: two numbers, how many
+// m .. s  event, state, low, high, touched,       M N O P taken: three numbers, how many
+//         next state, how many commands           Q .. X  what is stored, as I .. P
+// t       the command: 0 set, 1 cancel, 2 send, 3 save
+// u v w x to the source, destination or timer, echo, payload or value
+//
+// Eight numbers stand in a word, the first one lowest.
 use link_durable::Durable;
 use link_durable::Stored;
+use link_durable::Taken;
 use link_durable::fresh_durable;
 use link_handlers::Link;
 use link_inner::Table;
 use link_timers::Timers;
 use net_network::Network;
 use sys_actor::Actor;
+use sys_actor::zero_actor;
 use system::System;
 use system::zero_table;
-use system_step::step;
-use test_dump::dump;
-use types::Action;
 use types::Entry;
 use types::Envelope;
 use types::Id;
 use types::Kind;
 use types::LastMessage;
+use types::MOST_ACTORS;
+use types::MOST_COMMANDS;
 use types::Message;
 use types::Number;
 use types::Payload;
@@ -28,279 +41,264 @@ use types::Rule;
 use types::RuleCommand;
 use types::Slot;
 use types::Storage;
-ghost use mathlib.Core.Path.{_≡_};
 ghost use Prim.Native.Nat.{_<_};
-ghost use Rattle.answers.specs.Answers.{answerNumber};
-ghost use Rattle.test_ill_formed_ways.specs.Trials.{crashing, Alike};
 
-// ---- a trial
-// The number of the answer, and whether the system that comes back is the one that went in.
-pub struct Trial {
-    pub answer: u64,
-    pub same: bool,
-}
-
-// The same bytes, and so the same system but for its tables.
-fn same_bytes(a: System, b: System) -> bool
-    ensures { λ r. ⌜ Alike r a b ⌝ }
-{
-    let mut x = [0u8; 10409];
-    let mut y = [0u8; 10409];
-    dump(&mut x, 0, a);
-    dump(&mut y, 0, b);
-    same(&x, &y)
-}
-
-// A crash of actor 0 is done in every well-formed system.
-pub fn tried(s: System) -> Trial
-    ensures answer { λ r. ⌜ r .answer ≡ answerNumber (crashing s .answer) ⌝ }
-    ensures same { λ r. ⌜ Alike (r .same) s (crashing s .system) ⌝ }
-{
-    let t = step(s, Action::Crash(Id(0)));
-    let answer = t.answer;
-    let back = t.system;
-    Trial {
-        answer: number_of(answer),
-        same: same_bytes(s, back),
+// ---- words
+fn byte(word: u64, k: usize) -> u8 {
+    if 7 < k {
+        return 0;
     }
+    ((word >> (8 * k)) % 256) as u8
 }
 
-// ---- systems
-fn live(d: Durable) -> Actor {
-    let z = sys_actor::zero_actor();
-    let stored = z.stored;
-    Actor {
-        crashed: false,
-        timers: Timers(0),
-        link: Link {
-            durable: d,
-            state: 0,
-        },
-        stored: stored,
+fn with_byte(word: u64, k: usize, value: u8) -> u64 {
+    if 7 < k {
+        return word;
     }
+    let old = byte(word, k) as u64;
+    let new = value as u64;
+    word ^ ((old ^ new) << (8 * k))
 }
 
-// Two actors that nothing has happened to yet.
-pub fn base() -> System {
-    let mut s = system::blank();
-    let a = live(fresh_durable());
-    s.actors[0] = a;
-    s.actors[1] = a;
-    s.count = 2;
-    s
+fn flag(word: u64, k: usize) -> bool {
+    byte(word, k) != 0
 }
 
-pub fn with_count(s: System, count: usize) -> System {
-    let mut r = s;
-    r.count = count;
-    r
+fn size(word: u64, k: usize) -> usize {
+    byte(word, k) as usize
 }
 
-pub fn with_network(n: Network) -> System {
-    let mut s = base();
-    s.network = n;
-    s
+// From 201 on it counts down from 2^64: 202 stands for 2^64 - 2.
+fn number(word: u64, k: usize) -> Number {
+    let n = byte(word, k) as u64;
+    if 200 < n {
+        return Number(18446744073709551615 - (n - 201));
+    }
+    Number(n)
 }
 
-fn with_actor(i: usize, a: Actor) -> System
-    requires { ⌜ i < 8 ⌝ }
+// ---- the numbers of a way
+// A digit goes behind the value, and a letter begins a new one.
+fn next_value(value: u8, b: u8) -> u8 {
+    if b'A' <= b {
+        return 0;
+    }
+    if b < b'0' {
+        return value;
+    }
+    if b'9' < b {
+        return value;
+    }
+    if 24 < value {
+        return value;
+    }
+    value * 10 + (b - b'0')
+}
+
+// A letter names another number.
+fn next_place(place: usize, b: u8) -> usize
+    requires { ⌜ place < 48 ⌝ }
+    ensures { λ r. ⌜ r < 48 ⌝ }
 {
-    let mut s = base();
-    s.actors[i] = a;
-    s
+    if b < b'A' {
+        return place;
+    }
+    if b < b'a' {
+        return 24 + ((b - b'A') % 24) as usize;
+    }
+    ((b - b'a') % 24) as usize
 }
 
-pub fn with_table(i: usize, t: Table) -> System
-    requires { ⌜ i < 8 ⌝ }
-{
-    let mut s = base();
-    s.tables[i] = t;
-    s
+// Each byte writes the value at its place. The first place, a, has 2 until a letter comes.
+fn words(way: &[u8]) -> [u64; 6] {
+    let mut words = [2, 0, 0, 1099511627776, 1, 0];
+    let mut value = 2;
+    let mut place = 0;
+    let mut i = 0;
+    while i < way.len() {
+        let b = way[i];
+        value = next_value(value, b);
+        place = next_place(place, b);
+        let word = words[place / 8];
+        words[place / 8] = with_byte(word, place % 8, value);
+        i += 1;
+    }
+    words
 }
 
-// ---- networks
-pub fn entry(src: u8, number: u64, count: u16) -> Entry {
+// ---- the network
+fn entry(src: u8, number: Number, count: u8) -> Entry {
     Entry {
         envelope: Envelope {
             src: Id(src),
             dst: Id(0),
-            msg: Message::Deliver(Number(number), Payload(0)),
+            msg: Message::Deliver(number, Payload(0)),
         },
-        count: count,
+        count: count as u16,
     }
 }
 
-pub fn two_entries(kind: Kind, x: Entry, y: Entry) -> Network {
-    let mut n = net_network::blank(kind);
-    n.entries[0] = x;
-    n.entries[1] = y;
-    n.used = 2;
-    n
+fn kind_of(kind: u8) -> Kind {
+    match kind {
+        0 => Kind::Ordered,
+        1 => Kind::UnorderedDuplicating,
+        _ => Kind::UnorderedNonDuplicating,
+    }
 }
 
-pub fn with_used(n: Network, used: usize) -> Network {
-    let mut r = n;
-    r.used = used;
-    r
-}
-
-pub fn last_from(kind: Kind, src: u8) -> Network {
-    let x = entry(src, 1, 1);
+fn last_of(above: u8) -> LastMessage {
+    if above == 0 {
+        return LastMessage::Nothing;
+    }
+    let x = entry(above - 1, Number(1), 0);
     let e = x.envelope;
-    let n = net_network::blank(kind);
-    let entries = n.entries;
+    LastMessage::Delivered(e)
+}
+
+fn network(first: u64, second: u64) -> Network {
+    let x = entry(byte(first, 2), number(first, 3), byte(first, 4));
+    let y = entry(byte(first, 5), number(first, 6), byte(first, 7));
+    let last = last_of(byte(second, 1));
+    let kind = kind_of(byte(first, 1));
+    let blank = net_network::blank(kind);
+    let mut entries = blank.entries;
+    entries[0] = x;
+    entries[1] = y;
     Network {
         kind: kind,
         entries: entries,
-        used: 0,
-        last: LastMessage::Delivered(e),
+        used: size(second, 0),
+        last: last,
     }
 }
 
-// ---- tables
-// A sound rule without commands.
-pub fn rule() -> Rule {
-    let s = Slot {
+// ---- the table
+fn command(kind: u8, source: bool, v: u8, echo: bool, x: u32) -> RuleCommand {
+    match kind {
+        0 => RuleCommand::SetTimer(v),
+        1 => RuleCommand::CancelTimer(v),
+        2 => RuleCommand::Send(source, Id(v), echo, Payload(x)),
+        _ => RuleCommand::Save(echo, x),
+    }
+}
+
+fn rule(first: u64, second: u64) -> Rule {
+    let c = command(
+        byte(second, 3),
+        flag(second, 4),
+        byte(second, 5),
+        flag(second, 6),
+        byte(second, 7) as u32,
+    );
+    let zero = Slot {
         command: RuleCommand::SetTimer(0),
     };
+    let mut commands = [zero; MOST_COMMANDS];
+    commands[0] = Slot { command: c };
     Rule {
-        event: 2,
-        state: 0,
-        low: 0,
-        high: 9,
-        touched: true,
-        next: 1,
-        commands: [s; 4],
-        used: 0,
+        event: byte(first, 4),
+        state: byte(first, 5),
+        low: byte(first, 6) as u32,
+        high: byte(first, 7) as u32,
+        touched: flag(second, 0),
+        next: byte(second, 1),
+        commands: commands,
+        used: size(second, 2),
     }
 }
 
-// A sound rule but for its one command.
-pub fn commanding(event: u8, c: RuleCommand) -> Rule {
-    let mut r = rule();
-    r.event = event;
-    r.commands[0] = Slot { command: c };
-    r.used = 1;
-    r
-}
-
-pub fn one_rule(r: Rule) -> Table {
+fn table(first: u64, second: u64) -> Table {
+    let r = rule(first, second);
     let mut t = zero_table();
     t.rules[0] = r;
-    t.used = 1;
+    t.used = size(first, 3);
     t
 }
 
-pub fn with_rules(t: Table, used: usize) -> Table {
-    let mut r = t;
-    r.used = used;
-    r
-}
-
-// ---- durable parts
-pub fn pending(number: u64) -> Pending {
+// ---- the actor
+fn pending(number: Number) -> Pending {
     Pending {
-        number: Number(number),
+        number: number,
         dst: Id(0),
         payload: Payload(0),
     }
 }
 
-// Messages 1 and 2 are pending, and numbers are taken from both actors.
-pub fn busy() -> Durable {
-    let d = with_next(fresh_durable(), 3);
-    let p = with_pendings(with_pending(with_pending(d, 0, 1), 1, 2), 2);
-    with_takens(with_taken(with_taken(p, 0, 4), 1, 5), 2)
+fn storage(above: u8) -> Storage {
+    if above == 0 {
+        return Storage::Nothing;
+    }
+    Storage::Value((above - 1) as u32)
 }
 
-pub fn with_next(d: Durable, next: u64) -> Durable {
-    let mut r = d;
-    let n = Number(next);
-    r.next = n;
-    r
-}
-
-pub fn with_pending(d: Durable, i: usize, number: u64) -> Durable
-    requires { ⌜ i < 32 ⌝ }
-{
-    let mut r = d;
-    let mut p = d.pending;
-    let q = pending(number);
-    p.records[i] = q;
-    r.pending = p;
-    r
-}
-
-pub fn with_pendings(d: Durable, used: usize) -> Durable {
-    let mut r = d;
-    r.pending.used = used;
-    r
-}
-
-pub fn with_taken(d: Durable, i: usize, number: u64) -> Durable
-    requires { ⌜ i < 8 ⌝ }
-{
-    let mut r = d;
-    let mut t = d.taken;
-    let n = Number(number);
-    t.last[i] = n;
-    r.taken = t;
-    r
-}
-
-pub fn with_takens(d: Durable, used: usize) -> Durable {
-    let mut r = d;
-    r.taken.used = used;
-    r
-}
-
-pub fn with_value(d: Durable, value: u32) -> Durable {
-    let next = d.next;
-    let p = d.pending;
-    let t = d.taken;
+fn durable(word: u64, above: u8) -> Durable {
+    let next = number(word, 0);
+    let inner = storage(above);
+    let fresh = fresh_durable();
+    let mut p = fresh.pending;
+    p.records[0] = pending(number(word, 1));
+    p.records[1] = pending(number(word, 2));
+    p.used = size(word, 3);
+    let a = number(word, 4);
+    let b = number(word, 5);
+    let c = number(word, 6);
+    let z = Number(0);
     Durable {
         next: next,
         pending: p,
-        taken: t,
-        inner: Storage::Value(value),
+        taken: Taken {
+            last: [a, b, c, z, z, z, z, z],
+            used: size(word, 7),
+        },
+        inner: inner,
     }
 }
 
-// ---- actors
-// Where a durable part is put: in the link, in the store, or in a store that holds nothing.
-pub enum Place {
-    Live,
-    Stored,
-    Unstored,
-}
-
-fn stored(some: bool, d: Durable) -> Actor {
-    let mut a = live(fresh_durable());
-    let s = Stored {
-        some: some,
-        durable: d,
-    };
-    a.stored = s;
-    a
-}
-
-// Actor 0 holds this durable part.
-pub fn with_durable(place: Place, d: Durable) -> System {
-    match place {
-        Place::Live => with_actor(0, live(d)),
-        Place::Stored => with_actor(0, stored(true, d)),
-        Place::Unstored => with_actor(0, stored(false, d)),
+fn actor(word: u64, live: u64, stored: u64) -> Actor {
+    let d = durable(live, byte(word, 6));
+    let e = durable(stored, byte(word, 7));
+    Actor {
+        crashed: flag(word, 1),
+        timers: Timers(byte(word, 2) as u32),
+        link: Link {
+            durable: d,
+            state: byte(word, 3),
+        },
+        stored: Stored {
+            some: flag(word, 4),
+            durable: e,
+        },
     }
 }
 
-// Actor i has nothing but these.
-pub fn with_seat(i: usize, crashed: bool, timers: u32, state: u8, next: u64) -> System
-    requires { ⌜ i < 8 ⌝ }
-{
-    let mut a = live(with_next(fresh_durable(), next));
-    let t = Timers(timers);
-    a.crashed = crashed;
-    a.timers = t;
-    a.link.state = state;
-    with_actor(i, a)
+// ---- the system
+fn actors(word: u64, live: u64, stored: u64) -> [Actor; MOST_ACTORS] {
+    let plain = actor(0, byte(word, 5) as u64, 0);
+    let changed = actor(word, live, stored);
+    let zero = zero_actor();
+    let mut all = [zero; MOST_ACTORS];
+    all[0] = plain;
+    all[1] = plain;
+    all[size(word, 0) % MOST_ACTORS] = changed;
+    all
+}
+
+fn tables(first: u64, second: u64) -> [Table; MOST_ACTORS] {
+    let t = table(first, second);
+    let zero = zero_table();
+    let mut all = [zero; MOST_ACTORS];
+    all[size(first, 2) % MOST_ACTORS] = t;
+    all
+}
+
+pub fn made(way: &[u8]) -> System {
+    let n = words(way);
+    let first = n[0];
+    let second = n[1];
+    System {
+        count: size(first, 0),
+        network: network(first, second),
+        actors: actors(n[3], n[4], n[5]),
+        tables: tables(second, n[2]),
+    }
 }

@@ -1,8 +1,11 @@
+-- `run_commands`: after each turn, what is left to run gives what all give from the start; a refusal of one is that of all.
+-- Assumes nothing.
 use Prim.Native.Nat.{_≤_, _-_}
 use mathlib.Core.Path.{_≡_, sym, ap, _∙_, subst}
 use native.Mathlib.Numerals.{add-one}
 use borrow.Author.Tests.{not-true, not-false}
 use lib.ListN.{length}
+use Rattle.types.specs.Capacities.{mostTold}
 use Rattle.link_output.specs.declared.CommandSlot.{CommandSlot}
 use Rattle.link_output.specs.declared.LinkCommand.the-variants.{Set}
 use Rattle.rules.specs.Outcome.{base}
@@ -19,7 +22,7 @@ abbrev zero : CommandSlot
 zero = record { command = Set 0 }
 
 abbrev Inv-loop : tie.InvT-loop
-Inv-loop i n a list used net₀ act₀ j₀ net act j = (j ≤ used) × (used ≤ 33) × (length list ≡ 33) × Turn i n a list used j net act
+Inv-loop i n a list used net₀ act₀ j₀ net act j = (j ≤ used) × (used ≤ mostTold) × (length list ≡ mostTold) × Turn i n a list used j net act
 
 abbrev μ-loop : tie.MeasureT-loop
 μ-loop i n a list used net₀ act₀ j₀ net act j = used - j
@@ -53,9 +56,11 @@ returns c =
     let u = c .before .before .before .before .before .before .in-use in
     let k : u .result ≤ length (s .args .cs .list) = omega (arith, l .inv .1, l .inv .2) in
     λ rs.
-    turn-stop (s .args .i) (s .args .n) (s .args .a) _ _ (l .j) (l .net) (l .act) (l .inv .3) (c .before .before .before .before .loop-test .taken) k zero (c .before .before .run-command .result)
+    turn-stop (s .args .i) (s .args .n) (s .args .a) _ _ (l .j) (l .net) (l .act) (l .inv .3) (c .before .before .before .before .loop-test .taken) k zero
+    (c .before .before .run-command .result)
     (c .before .before .run-command .ensures) (sym (c .before .is-done .ensures) ∙ not-true _ (c .if1 .taken)) rs
-    ∙ ap (λ m. touchedOf (s .args .n) (s .args .a) (runPart (base .room) (s .args .i) m (partView rs (s .args .n) (s .args .a)))) (sym (all-of _ (s .args .cs) (u .result) (u .ensures .1 _ (l .inv .2))))
+    ∙ ap (λ m. touchedOf (s .args .n) (s .args .a) (runPart (base .room) (s .args .i) m (partView rs (s .args .n) (s .args .a))))
+    (sym (all-of _ (s .args .cs) (u .result) (u .ensures .1 _ (l .inv .2))))
 
 add-j : tie.Need-add-j Inv-loop μ-loop
 add-j c = search needs
@@ -67,12 +72,15 @@ loop-again : tie.Need-loop-again Inv-loop μ-loop
 loop-again c =
     let s = c .before .before .before .before .before .before .before .before .before .before in
     let l = c .before .before .before .before .before .before .before .loop in
-    let k : c .before .before .before .before .before .before .before .before .in-use .result ≤ length (s .args .cs .list) = omega (arith, l .inv .1, l .inv .2) in (
+    let k : c .before .before .before .before .before .before .before .before .in-use .result ≤ length (s .args .cs .list) =
+    omega (arith, l .inv .1, l .inv .2) in (
       search needs,
       l .inv .1,
       l .inv .2,
-      rw (add-one) (turn-on (s .args .i) (s .args .n) (s .args .a) _ _ (l .j) (l .net) (l .act) (l .inv .3) (c .before .before .before .before .before .before .loop-test .taken) k zero (c .before .before .before .before .run-command .result)
-          (c .before .before .before .before .run-command .ensures) (sym (c .before .before .before .is-done .ensures) ∙ not-false _ (c .before .before .if1 .left))),
+      rw (add-one) (turn-on (s .args .i) (s .args .n) (s .args .a) _ _ (l .j) (l .net) (l .act) (l .inv .3)
+          (c .before .before .before .before .before .before .loop-test .taken) k zero (c .before .before .before .before .run-command .result)
+          (c .before .before .before .before .run-command .ensures) (sym (c .before .before .before .is-done .ensures)
+          ∙ not-false _ (c .before .before .if1 .left))),
     )
 
 returns-2 : tie.Need-returns-2 Inv-loop μ-loop
@@ -82,8 +90,10 @@ returns-2 c =
     let u = c .before .before .in-use in
     let e : l .j ≡ u .result = omega arith in
     λ rs.
-    turn-end (s .args .i) (s .args .n) (s .args .a) _ _ (l .net) (l .act) (subst (λ j. Turn (s .args .i) (s .args .n) (s .args .a) (s .args .cs .list) (u .result) j (l .net) (l .act)) e (l .inv .3)) rs
-    ∙ ap (λ m. touchedOf (s .args .n) (s .args .a) (runPart (base .room) (s .args .i) m (partView rs (s .args .n) (s .args .a)))) (sym (all-of _ (s .args .cs) (u .result) (u .ensures .1 _ (l .inv .2))))
+    turn-end (s .args .i) (s .args .n) (s .args .a) _ _ (l .net) (l .act)
+    (subst (λ j. Turn (s .args .i) (s .args .n) (s .args .a) (s .args .cs .list) (u .result) j (l .net) (l .act)) e (l .inv .3)) rs
+    ∙ ap (λ m. touchedOf (s .args .n) (s .args .a) (runPart (base .room) (s .args .i) m (partView rs (s .args .n) (s .args .a))))
+    (sym (all-of _ (s .args .cs) (u .result) (u .ensures .1 _ (l .inv .2))))
 
 pub run-commands-spec : {M : Type 1} → statement M
 run-commands-spec =

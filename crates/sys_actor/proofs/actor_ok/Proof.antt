@@ -5,6 +5,7 @@ use mathlib.Core.Bool.{and-true}
 use lib.ListN.{length}
 use Prim.Native.Nat.{_<_}
 use borrow.Author.Tests.{le-leb, lt-leb, not-true, not-false}
+use Rattle.types.specs.Capacities.{mostPending, mostActors}
 use Rattle.lists.specs.Lists.{every}
 use Rattle.lists.proofs.Places.{length-mapped}
 use Rattle.sys_actor.specs.Views.{actorFine}
@@ -50,10 +51,10 @@ returns-4 c =
     let b = c .before .before .before .before .before .before .before .before .before .before in
     let a = b .args .a in
     let l = b .good .0 .1 .1 .1 .1 .0 .1 .1 .0 in let s = b .good .0 .1 .1 .1 .1 .1 .0 .1 .1 .1 .0 in
-    let p : length (a .link .durable .pending .records) ≡ 32 = search (needs, length-mapped, l .1 .1 .1 .0) in
-    let t : length (a .link .durable .taken .last) ≡ 8 = search (needs, length-mapped, l .1 .1 .1 .1 .0) in
-    let q : length (a .stored .durable .pending .records) ≡ 32 = search (needs, length-mapped, s .1 .1 .1 .0) in
-    let u : length (a .stored .durable .taken .last) ≡ 8 = search (needs, length-mapped, s .1 .1 .1 .1 .0) in
+    let p : length (a .link .durable .pending .records) ≡ mostPending = search (needs, length-mapped, l .1 .1 .1 .0) in
+    let t : length (a .link .durable .taken .last) ≡ mostActors = search (needs, length-mapped, l .1 .1 .1 .1 .0) in
+    let q : length (a .stored .durable .pending .records) ≡ mostPending = search (needs, length-mapped, s .1 .1 .1 .0) in
+    let u : length (a .stored .durable .taken .last) ≡ mostActors = search (needs, length-mapped, s .1 .1 .1 .1 .0) in
     let w : a .timers .0 < 4294967296 = search (needs, b .good .0 .1 .1 .1 .0) in
     let d = sym (c .before .before .before .before .before .before .durable-ok .ensures) ∙ not-false _ (c .before .before .before .before .before .if1 .left) in
     let h = le-leb _ _ (c .before .before .before .if2 .left) in

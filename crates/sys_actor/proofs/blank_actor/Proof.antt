@@ -6,6 +6,7 @@ use mathlib.Core.Bool.{true, false, and-true}
 use lib.ListN.{length}
 use Prim.Native.Nat.{_<_}
 use borrow.Author.Tests.{eq-eqb, ne-eqb, not-true, not-false}
+use Rattle.types.specs.Capacities.{mostPending, mostActors}
 use Rattle.lists.specs.Lists.{every}
 use Rattle.lists.proofs.Places.{length-mapped}
 use Rattle.sys_actor.specs.Views.{blankActor}
@@ -61,15 +62,16 @@ returns-6 c =
     let b = c .before .before .before .before .before .before .before .before .before .before .before .before .before in
     let a = b .args .a in
     let l = b .good .0 .1 .1 .1 .1 .0 .1 .1 .0 in let s = b .good .0 .1 .1 .1 .1 .1 .0 .1 .1 .1 .0 in
-    let p : length (a .link .durable .pending .records) ≡ 32 = search (needs, length-mapped, l .1 .1 .1 .0) in
-    let t : length (a .link .durable .taken .last) ≡ 8 = search (needs, length-mapped, l .1 .1 .1 .1 .0) in
-    let q : length (a .stored .durable .pending .records) ≡ 32 = search (needs, length-mapped, s .1 .1 .1 .0) in
-    let u : length (a .stored .durable .taken .last) ≡ 8 = search (needs, length-mapped, s .1 .1 .1 .1 .0) in
+    let p : length (a .link .durable .pending .records) ≡ mostPending = search (needs, length-mapped, l .1 .1 .1 .0) in
+    let t : length (a .link .durable .taken .last) ≡ mostActors = search (needs, length-mapped, l .1 .1 .1 .1 .0) in
+    let q : length (a .stored .durable .pending .records) ≡ mostPending = search (needs, length-mapped, s .1 .1 .1 .0) in
+    let u : length (a .stored .durable .taken .last) ≡ mostActors = search (needs, length-mapped, s .1 .1 .1 .1 .0) in
     let w : a .timers .0 < 4294967296 = search (needs, b .good .0 .1 .1 .1 .0) in
     let x : a .crashed ≡ false = c .before .before .before .before .before .before .before .before .before .if1 .left in
     let y : a .stored .some ≡ false = c .before .before .before .before .if4 .left in
     let z = sym (c .before .before .before .zero-durable .ensures) ∙ not-false _ (c .before .before .if5 .left) in
-    let n : a .timers .0 ≡ 0 = c .before .before .before .before .before .before .before .if2 .left in let m : a .link .state ≡ 0 = c .before .before .before .before .before .if3 .left in
+    let n : a .timers .0 ≡ 0 = c .before .before .before .before .before .before .before .if2 .left in
+    let m : a .link .state ≡ 0 = c .before .before .before .before .before .if3 .left in
     tells (blankActor a) (c .zero-durable2 .result) (blank-zero a (record { pending = p; taken = t; stored-pending = q; stored-taken = u; word = w }))
     (rw (x, eq-eqb (a .timers .0) 0 n, eq-eqb (a .link .state) 0 m, y, z) (c .zero-durable2 .ensures ∙ sym (and-true _)))
 

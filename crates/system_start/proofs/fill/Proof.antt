@@ -7,6 +7,7 @@ use Prim.Native.Nat.{_≤_, _-_}
 use mathlib.Core.Path.{_≡_, sym, subst, _∙_}
 use lib.ListN.{length}
 use borrow.Author.Tests.{not-true, not-false}
+use Rattle.types.specs.Capacities.{mostEntries}
 use Rattle.lists.proofs.Places.{length-mapped}
 use Rattle.net_network.specs.Views.{zeroEntry}
 use Rattle.system_start.proofs.Sends.{Filling, fill-begins, fill-stops, fill-goes, fill-ends}
@@ -14,7 +15,7 @@ use Rattle.system_start.proofs.fill.Statement.{statement}
 use Rattle.system_start.proofs.fill.Tie as tie
 
 abbrev Inv-loop : tie.InvT-loop
-Inv-loop n used list net₀ i₀ net i = (i ≤ used) × (length list ≡ 128) × Filling n list used i net
+Inv-loop n used list net₀ i₀ net i = (i ≤ used) × (length list ≡ mostEntries) × Filling n list used i net
 
 abbrev μ-loop : tie.MeasureT-loop
 μ-loop n used list net₀ i₀ net i = used - i
@@ -40,7 +41,8 @@ returns c =
     let l = c .before .before .before .before .before .loop in
     let b = l .inv .1 in
     let u = s .pre .1 in
-    fill-stops (s .args .n) (s .args .t2) (s .args .used) (l .i) (l .net) (l .inv .2) (c .before .before .before .before .loop-test .taken) (omega arith) (zeroEntry .envelope)
+    fill-stops (s .args .n) (s .args .t2) (s .args .used) (l .i) (l .net) (l .inv .2) (c .before .before .before .before .loop-test .taken) (omega arith)
+    (zeroEntry .envelope)
     (c .before .before .send .result) (c .before .before .send .ensures) (sym (c .before .is-done .ensures) ∙ not-true _ (c .if1 .taken))
 
 add-i : tie.Need-add-i Inv-loop μ-loop
@@ -57,8 +59,10 @@ loop-again c =
     let u = s .pre .1 in (
       search needs,
       b,
-      rw add-one (fill-goes (s .args .n) (s .args .t2) (s .args .used) (l .i) (l .net) (l .inv .2) (c .before .before .before .before .before .loop-test .taken) (omega arith) (zeroEntry .envelope)
-          (c .before .before .before .send .result) (c .before .before .before .send .ensures) (sym (c .before .before .is-done .ensures) ∙ not-false _ (c .before .if1 .left))),
+      rw add-one (fill-goes (s .args .n) (s .args .t2) (s .args .used) (l .i) (l .net) (l .inv .2)
+          (c .before .before .before .before .before .loop-test .taken) (omega arith) (zeroEntry .envelope)
+          (c .before .before .before .send .result) (c .before .before .before .send .ensures)
+          (sym (c .before .before .is-done .ensures) ∙ not-false _ (c .before .if1 .left))),
     )
 
 returns-2 : tie.Need-returns-2 Inv-loop μ-loop

@@ -5,6 +5,7 @@ use native.Mathlib.Omega.{arith}
 use Prim.Native.Nat.{_≤_, _-_}
 use mathlib.Core.Path.{_≡_, ap, _∙_}
 use lib.ListN.{length, take}
+use Rattle.types.specs.Capacities.{mostActors}
 use Rattle.lists.specs.Lists.{pad}
 use Rattle.lists.proofs.Places.{length-mapped}
 use Rattle.system.specs.Views.{zeroTable}
@@ -14,7 +15,7 @@ use Rattle.system_start.proofs.first_tables.Statement.{statement}
 use Rattle.system_start.proofs.first_tables.Tie as tie
 
 abbrev Inv-loop : tie.InvT-loop
-Inv-loop count tables own₀ i₀ own i = (i ≤ count) × (length own ≡ 8) × (own ≡ pad 8 zeroTable (take i tables))
+Inv-loop count tables own₀ i₀ own i = (i ≤ count) × (length own ≡ mostActors) × (own ≡ pad mostActors zeroTable (take i tables))
 
 abbrev μ-loop : tie.MeasureT-loop
 μ-loop count tables own₀ i₀ own i = count - i
@@ -48,15 +49,15 @@ loop-again : tie.Need-loop-again Inv-loop μ-loop
 loop-again c =
     let a = c .before .before .before .before .args in
     let l = c .before .before .loop in
-    let n : length (a .t1) ≡ 8 = search (needs, length-mapped) in
-    (search needs, search needs, copied-on 8 zeroTable (a .t1) (l .own) (l .i) no-table (omega arith) (omega arith) (l .inv .2))
+    let n : length (a .t1) ≡ mostActors = search (needs, length-mapped) in
+    (search needs, search needs, copied-on mostActors zeroTable (a .t1) (l .own) (l .i) no-table (omega arith) (omega arith) (l .inv .2))
 
 returns : tie.Need-returns Inv-loop μ-loop
 returns c =
     let a = c .before .before .before .args in
     let l = c .before .loop in
     let e : l .i ≡ a .count = omega arith in
-    l .inv .2 ∙ ap (λ j. pad 8 zeroTable (take j (a .t1))) e
+    l .inv .2 ∙ ap (λ j. pad mostActors zeroTable (take j (a .t1))) e
 
 pub first-tables-spec : {M : Type 1} → statement M
 first-tables-spec =

@@ -6,6 +6,7 @@ use Prim.Native.Nat.{_≤_, _-_}
 use mathlib.Core.Path.{_≡_, ap, _∙_}
 use mathlib.Core.List.{[]}
 use lib.ListN.{length, replicate}
+use Rattle.types.specs.Capacities.{mostActors}
 use Rattle.lists.specs.Lists.{pad}
 use Rattle.rules.specs.System.{unstarted}
 use Rattle.sys_actor.specs.Views.{actorAs, zeroActor}
@@ -14,7 +15,8 @@ use Rattle.system_start.proofs.fresh_actors.Statement.{statement}
 use Rattle.system_start.proofs.fresh_actors.Tie as tie
 
 abbrev Inv-loop : tie.InvT-loop
-Inv-loop count fresh actors₀ i₀ actors i = (i ≤ count) × (length actors ≡ 8) × (fresh ≡ actorAs (unstarted [])) × (actors ≡ pad 8 zeroActor (replicate i (actorAs (unstarted []))))
+Inv-loop count fresh actors₀ i₀ actors i = (i ≤ count) × (length actors ≡ mostActors) × (fresh ≡ actorAs (unstarted []))
+    × (actors ≡ pad mostActors zeroActor (replicate i (actorAs (unstarted []))))
 
 abbrev μ-loop : tie.MeasureT-loop
 μ-loop count fresh actors₀ i₀ actors i = count - i
@@ -45,14 +47,14 @@ loop-again : tie.Need-loop-again Inv-loop μ-loop
 loop-again c =
     let l = c .before .loop in
     let f = l .inv .2 in
-    (search needs, search needs, f, rw f (repeated-on 8 zeroActor (actorAs (unstarted [])) (l .actors) (l .i) (search needs) (l .inv .3)))
+    (search needs, search needs, f, rw f (repeated-on mostActors zeroActor (actorAs (unstarted [])) (l .actors) (l .i) (search needs) (l .inv .3)))
 
 returns : tie.Need-returns Inv-loop μ-loop
 returns c =
     let a = c .before .before .before .before .args in
     let l = c .before .loop in
     let e : l .i ≡ a .count = omega arith in
-    l .inv .3 ∙ ap (λ j. pad 8 zeroActor (replicate j (actorAs (unstarted [])))) e
+    l .inv .3 ∙ ap (λ j. pad mostActors zeroActor (replicate j (actorAs (unstarted [])))) e
 
 pub fresh-actors-spec : {M : Type 1} → statement M
 fresh-actors-spec =

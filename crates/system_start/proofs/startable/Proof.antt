@@ -5,6 +5,7 @@ use mathlib.Core.Bool.{and-true}
 use lib.ListN.{length}
 use borrow.Author.Tests.{le-leb, lt-leb, not-true, not-false}
 use borrow.Author.Needs.{needs}
+use Rattle.types.specs.Capacities.{mostActors}
 use Rattle.lists.specs.Lists.{all, every}
 use Rattle.lists.proofs.Places.{length-mapped}
 use Rattle.rules.specs.WellFormed.{sourceKnown}
@@ -16,21 +17,21 @@ returns : tie.Need-returns
 unfolding every
 returns c =
     let a = c .before .args in
-    let n : length (a .tables) ≡ 8 = search (needs, length-mapped) in
+    let n : length (a .tables) ≡ mostActors = search (needs, length-mapped) in
     sym (fine-tests (a .kind) (a .count) (a .tables) (a .given) n ∙ rw (lt-leb _ _ (c .if1 .taken)))
 
 returns-2 : tie.Need-returns-2
 unfolding every
 returns-2 c =
     let a = c .before .before .args in
-    let n : length (a .tables) ≡ 8 = search (needs, length-mapped) in
+    let n : length (a .tables) ≡ mostActors = search (needs, length-mapped) in
     sym (fine-tests (a .kind) (a .count) (a .tables) (a .given) n ∙ rw (le-leb _ _ (c .before .if1 .left), lt-leb _ _ (c .if2 .taken)))
 
 returns-3 : tie.Need-returns-3
 unfolding every
 returns-3 c =
     let a = c .before .before .before .args in
-    let n : length (a .tables) ≡ 8 = search (needs, length-mapped) in
+    let n : length (a .tables) ≡ mostActors = search (needs, length-mapped) in
     sym (fine-tests (a .kind) (a .count) (a .tables) (a .given) n ∙ rw (
       le-leb _ _ (c .before .before .if1 .left),
       le-leb _ _ (c .before .if2 .left),
@@ -44,7 +45,7 @@ returns-4 : tie.Need-returns-4
 unfolding every
 returns-4 c =
     let a = c .before .before .before .before .before .args in
-    let n : length (a .tables) ≡ 8 = search (needs, length-mapped) in
+    let n : length (a .tables) ≡ mostActors = search (needs, length-mapped) in
     sym (fine-tests (a .kind) (a .count) (a .tables) (a .given) n ∙ rw (
       le-leb _ _ (c .before .before .before .before .if1 .left),
       le-leb _ _ (c .before .before .before .if2 .left),
@@ -57,7 +58,7 @@ unfolding every
 returns-5 c =
     let b = c .before .before in
     let a = b .before .before .before .before .before .args in
-    let n : length (a .tables) ≡ 8 = search (needs, length-mapped) in
+    let n : length (a .tables) ≡ mostActors = search (needs, length-mapped) in
     sym (fine-tests (a .kind) (a .count) (a .tables) (a .given) n ∙ rw (
       le-leb _ _ (b .before .before .before .before .if1 .left),
       le-leb _ _ (b .before .before .before .if2 .left),
@@ -75,7 +76,7 @@ returns-6 c =
     let d = c .before in
     let b = d .before .before in
     let a = b .before .before .before .before .before .args in
-    let n : length (a .tables) ≡ 8 = search (needs, length-mapped) in
+    let n : length (a .tables) ≡ mostActors = search (needs, length-mapped) in
     c .sources-known .ensures
     ∙ sym (fine-tests (a .kind) (a .count) (a .tables) (a .given) n ∙ rw (
       le-leb _ _ (b .before .before .before .before .if1 .left),

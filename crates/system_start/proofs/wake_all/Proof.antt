@@ -7,6 +7,7 @@ use Prim.Native.Nat.{_≤_, _-_}
 use mathlib.Core.Path.{_≡_, sym, ap, _∙_}
 use lib.ListN.{length, length-set}
 use borrow.Author.Tests.{not-true, not-false}
+use Rattle.types.specs.Capacities.{mostActors}
 use Rattle.lists.proofs.Places.{length-mapped}
 use Rattle.sys_actor.specs.Views.{zeroActor}
 use Rattle.system.specs.declared.System.{System}
@@ -17,7 +18,8 @@ use Rattle.system_start.proofs.wake_all.Tie as tie
 
 abbrev Inv-loop : tie.InvT-loop
 Inv-loop none count tables network₀ actors₀ at₀ network actors at =
-    (count ≤ 8) × (length tables ≡ 8) × (length actors ≡ 8) × Waking (record { count = count; network = network₀; actors = actors₀; tables = tables }) at network actors
+    (count ≤ mostActors) × (length tables ≡ mostActors) × (length actors ≡ mostActors)
+    × Waking (record { count = count; network = network₀; actors = actors₀; tables = tables }) at network actors
 
 abbrev μ-loop : tie.MeasureT-loop
 μ-loop none count tables network₀ actors₀ at₀ network actors at = count - at
@@ -62,7 +64,8 @@ returns c =
     let l = c .before .before .before .before .before .before .loop in
     let w = c .before .before .wake in
     let n = l .inv .0 in let u = l .inv .1 in let v = l .inv .2 in
-    ap (λ (x : System). record { answer = w .result .answer; system = x }) (c .before .before .before .before .before .before .before .before .before .before .blank .ensures)
+    ap (λ (x : System). record { answer = w .result .answer; system = x })
+    (c .before .before .before .before .before .before .before .before .before .before .blank .ensures)
     ∙ wakes-stop (s .args .s) (l .at) (l .network) (l .actors) (s .pre) (l .inv .3) (c .before .before .before .before .before .loop-test .taken) _ _
     (get-any (l .actors) (l .at) _ zeroActor (omega arith)) (get-any (s .args .s .tables) (l .at) _ zeroTable (omega arith))
     (w .result) (w .ensures) (sym (c .before .is-done .ensures) ∙ not-true _ (c .if1 .taken))
@@ -88,7 +91,8 @@ loop-again c =
       n,
       u,
       length-set (l .actors) (l .at) _ ∙ v,
-      rw add-one (wakes-go (s .args .s) (l .at) (l .network) (l .actors) (s .pre) (l .inv .3) (c .before .before .before .before .before .before .before .loop-test .taken) _ _
+      rw add-one (wakes-go (s .args .s) (l .at) (l .network) (l .actors) (s .pre) (l .inv .3)
+          (c .before .before .before .before .before .before .before .loop-test .taken) _ _
           (get-any (l .actors) (l .at) _ zeroActor (omega arith)) (get-any (s .args .s .tables) (l .at) _ zeroTable (omega arith))
           (w .result) (w .ensures) (sym (c .before .before .before .is-done .ensures) ∙ not-false _ (c .before .before .if1 .left))),
     )
