@@ -49,10 +49,6 @@ pub alive : (b d : Bool) → d ≡ false → b ≡ (b && not d)
 alive true d e = rw e
 alive false d e = refl
 
--- ---- a Timeout's two tests
-pub no-and : (b d : Bool) → b ≡ false → (b && d) ≡ false
-no-and b d e = rw e
-
 pub late : (b : Bool) (t : ℕ) → network < t → (b && leb t network) ≡ false
 late true t h = lt-leb t network h
 late false t h = refl

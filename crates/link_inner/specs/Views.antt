@@ -3,9 +3,9 @@
 use Prim.Native.Nat.{ℕ}
 use mathlib.Core.Bool.{Bool, false, not}
 use mathlib.Core.List.{List, [], _∷_}
-use lib.ListN.{take, drop, replicate}
+use lib.ListN.{length, take, drop, replicate}
 use lib.Dec.{leb, eqb}
-use Rattle.lists.specs.Lists.{choose, all, every}
+use Rattle.lists.specs.Lists.{choose, all, every, pad}
 use Rattle.types.specs.Capacities.{mostCommands, mostRules, lastState}
 use Rattle.types.specs.declared.RuleCommand.{RuleCommand}
 use Rattle.types.specs.declared.Slot.{Slot}
@@ -43,6 +43,13 @@ zeroRule = record {
   commands = replicate mostCommands zeroSlot;
   used = 0;
 }
+
+-- The struct of a list of rules; places that are not used hold the zero rule.
+abbrev pub tableAs : List Rule → Table
+tableAs rs = record { rules = pad mostRules zeroRule rs; used = length rs }
+
+abbrev pub zeroTable : Table
+zeroTable = tableAs []
 
 -- A rule that is not used is all zero.
 unfoldable pub blankRule : Rule → Bool

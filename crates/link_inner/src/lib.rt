@@ -6,6 +6,7 @@ use types::MOST_RULES;
 use types::NETWORK;
 use types::Rule;
 use types::RuleCommand;
+use types::Slot;
 ghost use mathlib.Core.Path.{_≡_};
 ghost use mathlib.Core.Bool.{not, _&&_, _||_};
 ghost use Prim.Native.Nat.{_≤_};
@@ -14,12 +15,42 @@ ghost use lib.Dec.{leb, eqb};
 ghost use Rattle.lists.specs.Lists.{all};
 ghost use Rattle.types.specs.Capacities.{mostCommands, mostRules};
 ghost use Rattle.rules.specs.WellFormed.{zeroCommand};
-ghost use Rattle.link_inner.specs.Views.{commandPasses, slotPasses, ranges, blankRule, rulePasses, tableOk};
+ghost use Rattle.link_inner.specs.Views.{commandPasses, slotPasses, ranges, zeroRule, zeroTable, blankRule, rulePasses, tableOk};
 
 // Places from the used count on hold the zero rule.
 pub struct Table {
     pub rules: [Rule; MOST_RULES],
     pub used: usize,
+}
+
+// The rule in a place that is not used.
+pub fn zero_rule() -> Rule
+    ensures { λ r. ⌜ r ≡ zeroRule ⌝ }
+{
+    let s = Slot {
+        command: RuleCommand::SetTimer(0),
+    };
+    Rule {
+        event: 0,
+        state: 0,
+        low: 0,
+        high: 0,
+        touched: false,
+        next: 0,
+        commands: [s; MOST_COMMANDS],
+        used: 0,
+    }
+}
+
+// The table without rules.
+pub fn zero_table() -> Table
+    ensures { λ r. ⌜ r ≡ zeroTable ⌝ }
+{
+    let r = zero_rule();
+    Table {
+        rules: [r; MOST_RULES],
+        used: 0,
+    }
 }
 
 // "The source" in message rules only, and its destination is zero.

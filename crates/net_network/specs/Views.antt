@@ -11,7 +11,7 @@ use Rattle.types.specs.declared.Entry.{Entry}
 use Rattle.types.specs.Capacities.{mostEntries}
 use Rattle.answers.specs.declared.Answer.{Answer}
 use Rattle.answers.specs.Answers.{answerOf}
-use Rattle.rules.specs.Outcome.{Outcome, done, refused, base}
+use Rattle.rules.specs.Outcome.{Outcome, base, handedBack}
 use Rattle.rules.specs.Network.{Net}
 use Rattle.rules.specs.WellFormed.{inOrder}
 pub use Rattle.net_entries.specs.Search.{zeroEntry}
@@ -48,5 +48,4 @@ back a n = record { answer = a; network = n }
 
 -- What an outcome leaves of the network n: a refusal hands it back.
 abbrev pub sentOf : Network → Outcome Net → Sent
-sentOf n (done m) = back (answerOf 0) (networkOf m)
-sentOf n (refused k) = back (answerOf k) n
+sentOf n m = handedBack back networkOf n m

@@ -23,7 +23,8 @@ use Rattle.parts.specs.Parts.{systems}
 use Rattle.link_inner.specs.declared.Table.{Table}
 use Rattle.link_inner.specs.Views.{rulesOf}
 use Rattle.link_durable.proofs.Containers.{pad-view}
-use Rattle.system.specs.Views.{tableAs, zeroTable, tableLaid, systemOf}
+use Rattle.link_inner.specs.Views.{tableAs, zeroTable}
+use Rattle.system.specs.Views.{tableLaid, systemOf}
 use Rattle.system.proofs.Tables.{rules-back, table-fits}
 use Rattle.system_parts.specs.declared.Answered.{Answered}
 use Rattle.system_parts.specs.Views.{answeredOf}

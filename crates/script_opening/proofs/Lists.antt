@@ -10,11 +10,9 @@ use Rattle.types.specs.Capacities.{mostActors, mostRules}
 use Rattle.types.specs.declared.Format.{Format}
 use Rattle.types.specs.declared.Rule.{Rule}
 use Rattle.layout.specs.Read.{Reading, read, badAt, Reader, onward, joining, repeat}
-use Rattle.rules.specs.Inner.{slotsOf}
 use Rattle.rules.specs.Script.{Opening, tableFrom}
-use Rattle.script_records.specs.Views as records
 use Rattle.link_inner.specs.declared.Table.{Table}
-use Rattle.system.specs.Views.{zeroRule, tableAs, zeroTable}
+use Rattle.link_inner.specs.Views.{zeroRule, tableAs, zeroTable}
 use Rattle.script_opening.specs.declared.TableRead.{TableRead}
 use Rattle.script_opening.specs.declared.TablesRead.{TablesRead}
 use Rattle.script_opening.specs.declared.EnvelopesRead.{EnvelopesRead}
@@ -55,11 +53,6 @@ module _ {A B : Type 0} (g : A → B) (f : Reader A) where
 abbrev pub tableReader : Format → Reader Table
 tableReader f = changing tableAs (tableFrom f)
 
--- The rule that fills a table is the same in both crates.
-zero-rules : records.zeroRule ≡ zeroRule
-unfolding records.zeroRule slotsOf pad
-zero-rules = refl
-
 -- The answer, by the structs that were read.
 abbrev pub tablesHeld : Reading (List Table) → TablesRead
 tablesHeld (read l xs p) = record { found = true; tables = pad mostActors zeroTable l; used = length l; next = p }
@@ -84,7 +77,7 @@ module _ (f : Format) (s : List ℕ) (at : ℕ) {t : TableRead} (e : t ≡ table
       : t .found ≡ true → tableReader f (drop at s) at ≡ read (record { rules = t .rules; used = t .used }) (drop (t .next) s) (t .next)
   table-found g =
       let w = told-found table-tells (tableFrom f) s at e (kept-table f) g in
-      let r = ap (λ (x : TableRead). x .rules) (w .told) ∙ ap (λ (z : Rule). pad mostRules z (w .value)) zero-rules in
+      let r = ap (λ (x : TableRead). x .rules) (w .told) in
       let u = ap (λ (x : TableRead). x .used) (w .told) in
       ap (changed tableAs) (w .reads) ∙ sym (λ i. read (record { rules = r i; used = u i }) (drop (t .next) s) (t .next))
 

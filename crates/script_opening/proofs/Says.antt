@@ -14,9 +14,8 @@ use Rattle.rules.specs.Script.{Opening}
 use Rattle.link_inner.specs.declared.Table.{Table}
 use Rattle.link_inner.specs.Views.{rulesOf}
 use Rattle.script_records.specs.Says.{said, readingSays}
-use Rattle.script_records.specs.Views as records
 use Rattle.script_records.proofs.Says.{Both, both}
-use Rattle.system.specs.Views.{zeroRule, tableAs, zeroTable}
+use Rattle.link_inner.specs.Views.{zeroRule, tableAs, zeroTable}
 use Rattle.script_opening.specs.declared.TableRead.{TableRead}
 use Rattle.script_opening.specs.declared.TablesRead.{TablesRead}
 use Rattle.script_opening.specs.declared.EnvelopesRead.{EnvelopesRead}
@@ -46,7 +45,7 @@ tables-in l =
 
 table-law : (m : Reading (List Rule)) → tableSays (tableRead m) ≡ readingSays m
 unfolding choose
-table-law (read l xs p) = ap (λ (k : List Rule). said 0 (k ∷ []) (p ∷ [])) (in-use mostRules records.zeroRule l)
+table-law (read l xs p) = ap (λ (k : List Rule). said 0 (k ∷ []) (p ∷ [])) (in-use mostRules zeroRule l)
 table-law (badAt p) = refl
 
 pub table-both : (m : Reading (List Rule)) {r : TableRead} → r ≡ tableRead m → Both tableRead tableSays readingSays m r

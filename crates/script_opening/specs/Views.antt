@@ -10,8 +10,8 @@ use Rattle.types.specs.declared.Message.the-variants.{Deliver}
 use Rattle.types.specs.declared.Rule.{Rule}
 use Rattle.layout.specs.Read.{Reading, read, badAt}
 use Rattle.rules.specs.Script.{Opening}
-use Rattle.script_records.specs.Views.{zeroRule}
-use Rattle.system.specs.Views.{tableAs, zeroTable}
+use Rattle.link_inner.specs.Views.{zeroRule}
+use Rattle.link_inner.specs.Views.{tableAs, zeroTable}
 use Rattle.script_opening.specs.declared.TableRead.{TableRead}
 use Rattle.script_opening.specs.declared.TablesRead.{TablesRead}
 use Rattle.script_opening.specs.declared.EnvelopesRead.{EnvelopesRead}

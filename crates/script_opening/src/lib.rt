@@ -1,6 +1,8 @@
 // What stands before the actions of a script: its header, the tables of its actors and its starting envelopes. Each list is read into an
 // array, with the place after it, or it is bad at a place.
 use link_inner::Table;
+use link_inner::zero_rule;
+use link_inner::zero_table;
 use script_records::CountRead;
 use script_records::EnvelopeRead;
 use script_records::HeaderRead;
@@ -10,8 +12,6 @@ use script_records::read_envelope_count;
 use script_records::read_header;
 use script_records::read_rule;
 use script_records::read_rule_count;
-use script_records::zero_rule;
-use system::zero_table;
 use types::Envelope;
 use types::Format;
 use types::Id;

@@ -14,6 +14,7 @@ use Rattle.layout.specs.Bits.{fieldAt}
 use Rattle.layout.specs.Form.{Reached, reached, stuck, bytesFor}
 use Rattle.layout.specs.Read.{Reading, read, badAt}
 use Rattle.rules.specs.Inner.{slotsOf}
+use Rattle.link_inner.specs.Views.{zeroRule}
 use Rattle.rules.specs.Script.{flag, Item, end, item}
 use Rattle.rules.specs.Script as script
 use Rattle.script_records.specs.declared.HeaderRead.{HeaderRead}
@@ -45,10 +46,6 @@ headerRead (badAt p) = header.Bad p
 abbrev pub countRead : Reading ℕ → CountRead
 countRead (read c xs p) = count.Found c p
 countRead (badAt p) = count.Bad p
-
--- The rule of which all is zero.
-unfoldable pub zeroRule : Rule
-zeroRule = record { event = 0; state = 0; low = 0; high = 0; touched = false; next = 0; commands = slotsOf []; used = 0 }
 
 abbrev pub ruleRead : Reading Rule → RuleRead
 ruleRead (read r xs p) = record { found = true; rule = r; next = p }

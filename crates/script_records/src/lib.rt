@@ -1,5 +1,6 @@
 // The records of a script. Each is read at a place, as the script's format says: the answer is the value with the place after it, or the
 // place of the bad record.
+use link_inner::zero_rule;
 use script_bits::field;
 use script_bits::field8;
 use script_bits::field32;
@@ -29,7 +30,8 @@ ghost use Rattle.layout.specs.Form.{filled, field, follow, then, only, times, w
 ghost use Rattle.layout.specs.Read.{one};
 ghost use Rattle.rules.specs.Inner.{zeroSlot, slotsOf};
 ghost use Rattle.rules.specs.Script.{version1, versions, formatOf, Fine, headerOk, headerForm, ruleCountForm, commandForm, ruleForm, envelopeCountForm, messageForm, envelopeForm, actionForm, unread};
-ghost use Rattle.script_records.specs.Views.{endingOf, headerRead, countRead, zeroRule, ruleRead, envelopeRead, actionRead, actionSize, messagePart, messageEnd, envelopePart, envelopeEnd, commandPart, commandEnd, commandsPart, ruleWith, actionPart, actionEnd, withEnvelope};
+ghost use Rattle.link_inner.specs.Views.{zeroRule};
+ghost use Rattle.script_records.specs.Views.{endingOf, headerRead, countRead, ruleRead, envelopeRead, actionRead, actionSize, messagePart, messageEnd, envelopePart, envelopeEnd, commandPart, commandEnd, commandsPart, ruleWith, actionPart, actionEnd, withEnvelope};
 ghost use Rattle.script_records.specs.Says.{readingSays, headerSays, countSays, ruleSays, envelopeSays, actionSays};
 
 pub struct Header {
@@ -311,23 +313,6 @@ fn commands_part(s: &[u8], at: usize, count: usize, f: Format) -> CommandsPart
         found: true,
         commands,
         end,
-    }
-}
-
-// The rule that stands in an unused place of a table.
-pub fn zero_rule() -> Rule
-    ensures { λ r. ⌜ r ≡ zeroRule ⌝ }
-{
-    let commands = [zero_slot(); MOST_COMMANDS];
-    Rule {
-        event: 0,
-        state: 0,
-        low: 0,
-        high: 0,
-        touched: false,
-        next: 0,
-        commands,
-        used: 0,
     }
 }
 

@@ -5,7 +5,7 @@ use mathlib.Core.List.{List, []}
 use Rattle.lists.specs.Lists.{choose}
 use Rattle.types.specs.declared.Rule.{Rule}
 use Rattle.answers.specs.Answers.{answerOf}
-use Rattle.rules.specs.Outcome.{Outcome, done, refused}
+use Rattle.rules.specs.Outcome.{Outcome, handedBack}
 use Rattle.net_network.specs.declared.Network.{Network}
 use Rattle.net_network.specs.Views.{netView, networkOf}
 use Rattle.parts.specs.Parts.{Part, crashPart}
@@ -22,8 +22,8 @@ partView rs n a = record { net = netView n; actor = actorView rs a }
 
 -- A refusal hands both back.
 abbrev pub touchedOf : Network → Actor → Outcome Part → Touched
-touchedOf n a (done p) = record { answer = answerOf 0; network = networkOf (p .net); actor = actorAs (p .actor) }
-touchedOf n a (refused k) = record { answer = answerOf k; network = n; actor = a }
+touchedOf n a m =
+    handedBack {B = Network × Actor} (λ k x. record { answer = k; network = x .0; actor = x .1 }) (λ p. (networkOf (p .net), actorAs (p .actor))) (n, a) m
 
 -- What a handler told, as the rules have it; the events are for theorems only.
 abbrev pub didView : Did → rules.Did

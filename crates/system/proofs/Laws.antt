@@ -33,20 +33,8 @@ use Rattle.sys_actor.specs.declared.Actor.{Actor}
 use Rattle.sys_actor.specs.Views.{actorAs, actorView, ActorLaid, actorLaid, actorFine, zeroActor, blankActor}
 use Rattle.sys_actor.proofs.Laws.{actor-laid, actor-back, actor-kept, fine-laid-out, timers-of, rules-of, blank-zero, zero-blank}
 use Rattle.system.specs.declared.System.{System}
-use Rattle.system.specs.Views.{
-  zeroTable,
-  tableAs,
-  TableLaid,
-  seated,
-  tableFor,
-  sysView,
-  systemOf,
-  SystemLaid,
-  tableLaid,
-  blankTable,
-  systemLaid,
-  systemFine,
-}
+use Rattle.link_inner.specs.Views.{zeroTable, tableAs}
+use Rattle.system.specs.Views.{TableLaid, seated, tableFor, sysView, systemOf, SystemLaid, tableLaid, blankTable, systemLaid, systemFine}
 use Rattle.system.proofs.Types.{SystemTyped}
 use Rattle.system.proofs.Tables.{pad-rest, all-same, drop-in, rest-same, table-laid, table-parts, table-make, blank-table, rules-back, table-kept}
 use Rattle.system.proofs.Tables as tables

@@ -17,7 +17,8 @@ use Rattle.link_inner.specs.Views.{rulesOf, tableOk}
 use Rattle.sys_actor.specs.declared.Actor.{Actor}
 use Rattle.sys_actor.specs.Views.{actorView, actorAs, ActorLaid, actorLaid, actorFine}
 use Rattle.sys_actor.proofs.Laws.{actor-back, actor-formed, formed-fine, fine-laid-out, timers-of, rules-of, actor-kept}
-use Rattle.system.specs.Views.{tableAs, TableLaid, seated, tableFor, tableLaid}
+use Rattle.link_inner.specs.Views.{tableAs}
+use Rattle.system.specs.Views.{TableLaid, seated, tableFor, tableLaid}
 use Rattle.system.proofs.Tables.{table-parts, table-make, rules-back, table-kept}
 
 -- ---- two lists side by side

@@ -9,19 +9,18 @@ use lib.ListN.{length, take, drop, replicate, length-drop, take-append-drop}
 use lib.Seq.{length-take-le, drop-at}
 use lib.Dec.{leb, eqb, lit≤}
 use borrow.Author.Tests.{leb-true, le-leb, eqb-true}
+use Rattle.link_inner.proofs.Tables.{blank-is}
 use Rattle.types.specs.Capacities.{mostRules, mostCommands}
 use Rattle.lists.specs.Lists.{_∈_, all, every, pad}
 use Rattle.lists.proofs.Members.{and-both, every-cons, every-make, every-nil, all-in, not-true}
 use Rattle.lists.proofs.Places.{laid-length}
 use Rattle.types.specs.declared.Rule.{Rule}
-use Rattle.types.specs.declared.RuleCommand.{RuleCommand}
-use Rattle.types.specs.declared.RuleCommand.the-variants.{SetTimer, CancelTimer, Send, Save}
-use Rattle.types.specs.declared.Slot.{Slot}
 use Rattle.rules.specs.WellFormed.{zeroCommand, unused, ruleOk, sound}
 use Rattle.link_inner.specs.declared.Table.{Table}
 use Rattle.link_inner.specs.Views.{rulesOf, blankRule, tableOk}
 use Rattle.link_durable.proofs.Containers.{pad-view}
-use Rattle.system.specs.Views.{zeroSlot, zeroRule, tableAs, TableLaid, zeroTable, tableLaid, blankTable}
+use Rattle.link_inner.specs.Views.{zeroRule, tableAs, zeroTable}
+use Rattle.system.specs.Views.{TableLaid, tableLaid, blankTable}
 use Rattle.system.proofs.Types.{TableTyped}
 
 -- ---- what stands in places that are not used
@@ -58,29 +57,6 @@ rest-same {A} z n es used h k e =
     let m : length (drop used es) ≡ n - length (take used es) = omega (arith, length-drop used es) in
     sym (take-append-drop used es) ∙ ap (λ (l : List A). take used es ++ l) (e ∙ ap (λ (j : ℕ). replicate j z) m)
 
-zero-is : (c : RuleCommand) → zeroCommand c ≡ true → _≡_ {A = Slot} (record { command = c }) zeroSlot
-unfolding zeroCommand
-zero-is (SetTimer t) h = let n = eqb-true t 0 h in λ i. record { command = SetTimer (n i) }
-zero-is (CancelTimer t) h = absurd (true≢false (sym h))
-zero-is (Send a b c d) h = absurd (true≢false (sym h))
-zero-is (Save a b) h = absurd (true≢false (sym h))
-
-unused-zero : (s : Slot) → unused s ≡ true → s ≡ zeroSlot
-unfolding unused
-unused-zero s e = zero-is (s .command) e
-
-blank-zero : (r : Rule) → length (r .commands) ≡ mostCommands → blankRule r ≡ true → r ≡ zeroRule
-unfolding blankRule
-blank-zero r n e =
-    let a = every-cons _ _ e in let b = every-cons _ _ (a .1) in let c = every-cons _ _ (b .1) in let d = every-cons _ _ (c .1) in
-    let f = every-cons _ _ (d .1) in let g = every-cons _ _ (f .1) in let h = every-cons _ _ (g .1) in
-    let s : r .commands ≡ replicate mostCommands zeroSlot = all-same unused zeroSlot (r .commands) (λ x m. unused-zero x) (every-cons _ _ (h .1) .0)
-    ∙ ap (λ (k : ℕ). replicate k zeroSlot) n in
-    let ev = eqb-true (r .event) 0 (a .0) in let st = eqb-true (r .state) 0 (b .0) in let lo = eqb-true (r .low) 0 (c .0) in
-    let hi = eqb-true (r .high) 0 (d .0) in let to = not-true (r .touched) (f .0) in let ne = eqb-true (r .next) 0 (g .0) in
-    let us = eqb-true (r .used) 0 (h .0) in
-    λ i. record { event = ev i; state = st i; low = lo i; high = hi i; touched = to i; next = ne i; commands = s i; used = us i }
-
 -- ---- a table
 record Parts (t : Table) : Type 0 where
   fit : t .used ≤ mostRules
@@ -94,7 +70,7 @@ pub table-laid : (t : Table) → TableTyped t → tableLaid t ≡ true → Table
 table-laid t y e =
     let p = parts-of t e in
     let r = rest-same zeroRule mostRules (t .rules) (t .used) (y .room) (p .fit)
-    (all-same blankRule zeroRule (drop (t .used) (t .rules)) (λ x m. blank-zero x (y .slots x (drop-in (t .used) (t .rules) x m))) (p .rest)) in
+    (all-same blankRule zeroRule (drop (t .used) (t .rules)) (λ x m. blank-is x (y .slots x (drop-in (t .used) (t .rules) x m))) (p .rest)) in
     let n = sym (laid-length mostRules zeroRule (t .rules) (t .used) (p .fit) r) in
     λ i. record { rules = r i; used = n i }
 

@@ -17,26 +17,14 @@ use Rattle.rules.specs.WellFormed.{wellFormed}
 use Rattle.net_network.specs.Views.{netView, networkOf}
 use Rattle.net_formed.specs.Formed.{laidOut}
 use Rattle.link_inner.specs.declared.Table.{Table}
-use Rattle.link_inner.specs.Views.{rulesOf, blankRule}
+use Rattle.link_inner.specs.Views.{rulesOf, tableAs, zeroTable, blankRule}
 use Rattle.sys_actor.specs.declared.Actor.{Actor}
 use Rattle.sys_actor.specs.Views.{actorView, actorAs, actorLaid, zeroActor, blankActor}
 use Rattle.system.specs.declared.System.{System}
 
--- ---- a table, all zero where it is not used
-abbrev pub zeroSlot : Slot
-zeroSlot = record { command = SetTimer 0 }
-
-abbrev pub zeroRule : Rule
-zeroRule = record { event = 0; state = 0; low = 0; high = 0; touched = false; next = 0; commands = replicate mostCommands zeroSlot; used = 0 }
-
-abbrev pub tableAs : List Rule → Table
-tableAs rs = record { rules = pad mostRules zeroRule rs; used = length rs }
-
+-- ---- a table is that of its rules
 abbrev pub TableLaid : Table → Type 0
 TableLaid t = t ≡ tableAs (rulesOf t)
-
-abbrev pub zeroTable : Table
-zeroTable = tableAs []
 
 -- ---- the system
 -- An actor with the rules of its table.

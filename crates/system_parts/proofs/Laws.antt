@@ -22,7 +22,8 @@ use Rattle.sys_actor.proofs.Laws.{actor-kept, fine-laid-out}
 use Rattle.parts.specs.Parts.{Part, partOf, putBack}
 use Rattle.steps.specs.Views.{partView}
 use Rattle.system.specs.declared.System.{System}
-use Rattle.system.specs.Views.{sysView, systemOf, tableFor, zeroTable, zeroRule}
+use Rattle.link_inner.specs.Views.{zeroTable, zeroRule}
+use Rattle.system.specs.Views.{sysView, systemOf, tableFor}
 use Rattle.system.proofs.Laws.{formed-of, counted, seat-ok, actor-at, actor-view}
 use Rattle.system_parts.specs.Views.{Ready}
 

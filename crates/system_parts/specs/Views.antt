@@ -3,7 +3,7 @@
 use mathlib.Core.Path.{_≡_}
 use mathlib.Core.Bool.{true}
 use Rattle.answers.specs.Answers.{answerOf}
-use Rattle.rules.specs.Outcome.{Outcome, done, refused, base}
+use Rattle.rules.specs.Outcome.{Outcome, base, handedBack}
 use Rattle.rules.specs.System.{Sys}
 use Rattle.rules.specs.WellFormed.{wellFormed}
 use Rattle.system.specs.declared.System.{System}
@@ -17,5 +17,4 @@ pub record Ready (s : System) : Type 0 where
 
 -- A refusal hands back the system s.
 abbrev pub answeredOf : System → Outcome Sys → Answered
-answeredOf s (done m) = record { answer = answerOf 0; system = systemOf m }
-answeredOf s (refused k) = record { answer = answerOf k; system = s }
+answeredOf s m = handedBack (λ k x. record { answer = k; system = x }) systemOf s m

@@ -29,7 +29,8 @@ use Rattle.link_inner.proofs.Table as table
 use Rattle.sys_actor.specs.declared.Actor.{Actor}
 use Rattle.sys_actor.specs.Views.{actorAs, zeroActor}
 use Rattle.system.specs.declared.System.{System}
-use Rattle.system.specs.Views.{TableLaid, tableFor, zeroTable, systemOf}
+use Rattle.link_inner.specs.Views.{zeroTable}
+use Rattle.system.specs.Views.{TableLaid, tableFor, systemOf}
 use Rattle.system.proofs.Types.{TableTyped, table-says}
 use Rattle.system.proofs.Tables.{table-laid, table-parts}
 use Rattle.system.proofs.Laws.{take-in}

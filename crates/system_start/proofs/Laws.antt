@@ -35,7 +35,8 @@ use Rattle.answers.specs.Answers.{isDone}
 use Rattle.steps.proofs.Laws.{refusal}
 use Rattle.steps.proofs.Actions.{done-of, refused-of, sent-answer}
 use Rattle.system.specs.declared.System.{System}
-use Rattle.system.specs.Views.{zeroTable, sysView, systemOf}
+use Rattle.link_inner.specs.Views.{zeroTable}
+use Rattle.system.specs.Views.{sysView, systemOf}
 use Rattle.system.proofs.Types.{TableTyped}
 use Rattle.system.proofs.Laws.{system-back}
 use Rattle.system_parts.specs.declared.Answered.{Answered}

@@ -36,18 +36,13 @@ use Rattle.steps.specs.Views.{partView, touchedOf}
 use Rattle.steps.proofs.Laws.{refusal}
 use Rattle.steps.proofs.Actions.{answerIn, done-of, refused-of}
 use Rattle.system.specs.declared.System.{System}
-use Rattle.system.specs.Views.{zeroTable, sysView, systemOf}
+use Rattle.link_inner.specs.Views.{zeroTable}
+use Rattle.system.specs.Views.{sysView, systemOf}
 use Rattle.system.proofs.Laws.{formed-of, counted, net-ready, seat-ok, actor-at, actor-is-laid, table-is-ok, image-laid, system-back}
 use Rattle.system_parts.specs.declared.Answered.{Answered}
 use Rattle.system_parts.specs.Views.{Ready, answeredOf}
 use Rattle.system_parts.proofs.Laws.{part-at, put-system}
 use Rattle.system_start.specs.Views.{Awaiting}
-
--- What stands at a place of a list is the same whatever a look beyond would find.
-pub get-any : {A : Type 0} (l : List A) (i : ℕ) (d e : A) → i < length l → getD l i d ≡ getD l i e
-get-any [] i d e h = absurd (omega arith)
-get-any (x ∷ l) zero d e h = refl
-get-any (x ∷ l) (suc i) d e h = get-any l i d e (omega arith)
 
 touched-answer : (n : Network) (a : Actor) (m : Outcome Part) → touchedOf n a m .answer ≡ answerIn m
 touched-answer n a (done p) = refl

@@ -11,7 +11,7 @@ use borrow.Author.Tests.{ltb-true}
 use Rattle.types.specs.Capacities.{mostActors}
 use Rattle.lists.specs.Lists.{choose, every}
 use Rattle.lists.proofs.Members.{not-true, every-cons}
-use Rattle.lists.proofs.Places.{length-pad}
+use Rattle.lists.proofs.Places.{length-pad, get-any}
 use Rattle.types.specs.declared.Id.{Id}
 use Rattle.types.specs.declared.Action.{Action}
 use Rattle.answers.specs.declared.Answer.the-variants.{Done}
@@ -40,18 +40,13 @@ use Rattle.steps.specs.Views.{partView, touchedOf}
 use Rattle.steps.proofs.Laws.{refusal}
 use Rattle.act.specs.Views.{PartReady}
 use Rattle.system.specs.declared.System.{System}
-use Rattle.system.specs.Views.{sysView, systemOf, SystemLaid, systemLaid, systemFine, tableFor, zeroTable}
+use Rattle.link_inner.specs.Views.{zeroTable}
+use Rattle.system.specs.Views.{sysView, systemOf, SystemLaid, systemLaid, systemFine, tableFor}
 use Rattle.system.proofs.Laws.{formed-of, counted, net-ready, actor-is-laid, table-is-ok, image-laid, system-back}
 use Rattle.system_parts.specs.declared.Answered.{Answered}
 use Rattle.system_parts.specs.Views.{Ready, answeredOf}
 use Rattle.system_parts.proofs.Laws.{part-at, put-system, laid-at}
 use Rattle.system_step.specs.Views.{stepOf, putTouched, writtenBack}
-
--- An element that is there, whatever the default.
-get-same : {A : Type 0} (l : List A) (i : ℕ) (d e : A) → i < length l → getD l i d ≡ getD l i e
-get-same [] i d e h = absurd (omega arith)
-get-same (x ∷ l) zero d e h = refl
-get-same (x ∷ l) (suc i) d e h = get-same l i d e (omega arith)
 
 -- ---- the seat of an action
 seat-in : (n : ℕ) (a : Action) → 1 ≤ n → seat n a < n
@@ -145,13 +140,13 @@ module _ (s : System) (r : Ready s) (a : Action) where
     same-actor =
         let n = ap (λ (x : System). length (x .actors)) (r .laid) ∙ length-pad mostActors zeroActor (map actorAs (m .actors))
         (let z = formed-of m (r .formed) .few in let q = length-map (m .actors) actorAs in omega arith) in
-        get-same (s .actors) k d zeroActor (let b = below in omega arith) ∙ ap (λ (j : ℕ). getD (s .actors) j zeroActor) here
+        get-any (s .actors) k d zeroActor (let b = below in omega arith) ∙ ap (λ (j : ℕ). getD (s .actors) j zeroActor) here
 
     same-table : getD (s .tables) k e ≡ table
     same-table =
         let n = ap (λ (x : System). length (x .tables)) (r .laid) ∙ length-pad mostActors zeroTable (map tableFor (m .actors))
         (let z = formed-of m (r .formed) .few in let q = length-map (m .actors) tableFor in omega arith) in
-        get-same (s .tables) k e zeroTable (let b = below in omega arith) ∙ ap (λ (j : ℕ). getD (s .tables) j zeroTable) here
+        get-any (s .tables) k e zeroTable (let b = below in omega arith) ∙ ap (λ (j : ℕ). getD (s .tables) j zeroTable) here
 
     -- What the core asks.
     pub part-ready : PartReady (s .count) (s .network) (getD (s .actors) k d) (getD (s .tables) k e)

@@ -1,5 +1,6 @@
 use lib.Dec.{ltb}
-use Rattle.act.proofs.Laws.{stops, goes, no-and, late, and-both}
+use Rattle.lists.proofs.Members.{no-and}
+use Rattle.act.proofs.Laws.{stops, goes, late, and-both}
 use Rattle.answers.specs.Answers.{answerOf}
 use Rattle.parts.specs.Parts.{actPart}
 use borrow.Author.Tests.{not-true, not-false}

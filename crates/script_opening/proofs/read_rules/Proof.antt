@@ -9,7 +9,7 @@ use Rattle.lists.specs.Lists.{pad}
 use Rattle.layout.specs.Read.{one}
 use Rattle.types.specs.Capacities.{mostRules}
 use Rattle.rules.specs.Script.{ruleForm}
-use Rattle.script_records.specs.Views.{zeroRule}
+use Rattle.link_inner.specs.Views.{zeroRule}
 use Rattle.script_opening.specs.Views.{tableRead}
 use Rattle.script_opening.proofs.Readings.{rule-found, rule-bad}
 use Rattle.script_opening.proofs.Loops.{Reads, reads-none, reads-more, reads-bad, reads-all, reads-count}

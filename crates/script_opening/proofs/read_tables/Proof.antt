@@ -7,7 +7,7 @@ use Rattle.lists.specs.Lists.{pad}
 use Rattle.layout.specs.Read.{repeat}
 use Rattle.types.specs.Capacities.{mostActors}
 use Rattle.rules.specs.Script.{tableFrom}
-use Rattle.system.specs.Views.{zeroTable}
+use Rattle.link_inner.specs.Views.{zeroTable}
 use Rattle.script_opening.proofs.Says.{tables-both}
 use Rattle.script_opening.proofs.Loops.{Reads, reads-none, reads-more, reads-bad, reads-all, reads-count}
 use Rattle.script_opening.proofs.Lists.{tableReader, tablesHeld, tables-held, table-found, table-bad}

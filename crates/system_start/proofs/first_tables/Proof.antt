@@ -8,7 +8,7 @@ use lib.ListN.{length, take}
 use Rattle.types.specs.Capacities.{mostActors}
 use Rattle.lists.specs.Lists.{pad}
 use Rattle.lists.proofs.Places.{length-mapped}
-use Rattle.system.specs.Views.{zeroTable}
+use Rattle.link_inner.specs.Views.{zeroTable}
 use Rattle.system_formed.proofs.Outside.{no-table}
 use Rattle.system_start.proofs.First.{copied-on}
 use Rattle.system_start.proofs.first_tables.Statement.{statement}

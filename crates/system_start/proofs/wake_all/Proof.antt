@@ -8,11 +8,11 @@ use mathlib.Core.Path.{_≡_, sym, ap, _∙_}
 use lib.ListN.{length, length-set}
 use borrow.Author.Tests.{not-true, not-false}
 use Rattle.types.specs.Capacities.{mostActors}
-use Rattle.lists.proofs.Places.{length-mapped}
+use Rattle.lists.proofs.Places.{length-mapped, get-any}
 use Rattle.sys_actor.specs.Views.{zeroActor}
 use Rattle.system.specs.declared.System.{System}
-use Rattle.system.specs.Views.{zeroTable}
-use Rattle.system_start.proofs.Wakes.{Waking, few, get-any, wakes-begin, wake-asks, wakes-stop, wakes-go, wakes-end}
+use Rattle.link_inner.specs.Views.{zeroTable}
+use Rattle.system_start.proofs.Wakes.{Waking, few, wakes-begin, wake-asks, wakes-stop, wakes-go, wakes-end}
 use Rattle.system_start.proofs.wake_all.Statement.{statement}
 use Rattle.system_start.proofs.wake_all.Tie as tie
 
