@@ -2,8 +2,6 @@ use Rattle.parts.specs.Parts.{target}
 use borrow.Author.Needs.{needs}
 use Rattle.act.proofs.actor_of.Statement.{statement}
 use Rattle.act.proofs.actor_of.Tie as tie
-use Rattle.act.proofs.actor_of.Reads as reads
-use Rattle.act.proofs.actor_of.Lts as lts
 
 -- src/lib.rt:30:25
 enum-known-a : tie.Need-enum-known-a

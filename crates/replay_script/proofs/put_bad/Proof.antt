@@ -4,9 +4,6 @@ use lib.Dec.{lit≤}
 use borrow.Author.Needs.{needs}
 use Rattle.replay_script.proofs.put_bad.Statement.{statement}
 use Rattle.replay_script.proofs.put_bad.Tie as tie
-use Rattle.replay_script.proofs.put_bad.Reads as reads
-use Rattle.replay_script.proofs.put_bad.Lts as lts
-use Rattle.replay_lines.proofs.bad_line.Reads as bad-line-reads
 
 bad-line-requires : tie.Need-bad-line-requires
 bad-line-requires c κs = (λ w. absurd (false≢true w), lit≤ tt)

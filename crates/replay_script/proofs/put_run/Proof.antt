@@ -7,10 +7,6 @@ use Rattle.replay_script.proofs.Laws.{good-longest, told-all, told-afte
 use borrow.Author.Needs.{needs}
 use Rattle.replay_script.proofs.put_run.Statement.{statement}
 use Rattle.replay_script.proofs.put_run.Tie as tie
-use Rattle.replay_script.proofs.put_run.Reads as reads
-use Rattle.replay_script.proofs.put_run.Lts as lts
-use Rattle.replay_script.proofs.room_for.Reads as room-for-reads
-use Rattle.replay_script.proofs.tell_run.Reads as tell-run-reads
 
 room-for-requires : tie.Need-room-for-requires
 room-for-requires c κs = parts-of versions _ (c .before .before .pre) .short

@@ -4,11 +4,6 @@ use Rattle.replay_script.proofs.Laws.{told-bad}
 use borrow.Author.Needs.{needs}
 use Rattle.replay_script.proofs.replay.Statement.{statement}
 use Rattle.replay_script.proofs.replay.Tie as tie
-use Rattle.replay_script.proofs.replay.Reads as reads
-use Rattle.replay_script.proofs.replay.Lts as lts
-use Rattle.replay_script.proofs.put_bad.Reads as put-bad-reads
-use Rattle.replay_script.proofs.put_run.Reads as put-run-reads
-use Rattle.script_check.proofs.check_script.Reads as check-script-reads
 
 check-script-requires : tie.Need-check-script-requires
 check-script-requires c κs = search needs

@@ -12,11 +12,6 @@ use Rattle.replay_start.proofs.Laws.{opened-is}
 use borrow.Author.Needs.{needs}
 use Rattle.replay_start.proofs.open.Statement.{statement}
 use Rattle.replay_start.proofs.open.Tie as tie
-use Rattle.replay_start.proofs.open.Reads as reads
-use Rattle.replay_start.proofs.open.Lts as lts
-use Rattle.replay_start.proofs.unreadable.Reads as unreadable-reads
-use Rattle.script_opening.proofs.read_opening.Reads as read-opening-reads
-use Rattle.system_start.proofs.start.Reads as start-reads
 
 read-opening-requires : tie.Need-read-opening-requires
 read-opening-requires c κs = search needs

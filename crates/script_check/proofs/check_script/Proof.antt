@@ -13,11 +13,6 @@ use Rattle.script_check.proofs.Says.{layout-both}
 use borrow.Author.Needs.{needs}
 use Rattle.script_check.proofs.check_script.Statement.{statement}
 use Rattle.script_check.proofs.check_script.Tie as tie
-use Rattle.script_check.proofs.check_script.Reads as reads
-use Rattle.script_check.proofs.check_script.Lts as lts
-use Rattle.script_check.proofs.check_actions.Reads as check-actions-reads
-use Rattle.script_opening.proofs.read_opening.Reads as read-opening-reads
-use Rattle.script_records.proofs.format_of.Reads as format-of-reads
 
 returns : tie.Need-returns
 returns c =

@@ -3,10 +3,6 @@ use Rattle.lists.specs.Lists.{pad}
 use borrow.Author.Needs.{needs}
 use Rattle.script_opening.proofs.bad_opening.Statement.{statement}
 use Rattle.script_opening.proofs.bad_opening.Tie as tie
-use Rattle.script_opening.proofs.bad_opening.Reads as reads
-use Rattle.script_opening.proofs.bad_opening.Lts as lts
-use Rattle.script_opening.proofs.zero_envelope.Reads as zero-envelope-reads
-use Rattle.system.proofs.zero_table.Reads as zero-table-reads
 
 zero-table-requires : tie.Need-zero-table-requires
 zero-table-requires c κs = search needs

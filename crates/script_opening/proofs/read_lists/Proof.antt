@@ -6,11 +6,6 @@ use Rattle.script_opening.proofs.Opening.{no-tables, no-envelopes, both
 use borrow.Author.Needs.{needs}
 use Rattle.script_opening.proofs.read_lists.Statement.{statement}
 use Rattle.script_opening.proofs.read_lists.Tie as tie
-use Rattle.script_opening.proofs.read_lists.Reads as reads
-use Rattle.script_opening.proofs.read_lists.Lts as lts
-use Rattle.script_opening.proofs.bad_opening.Reads as bad-opening-reads
-use Rattle.script_opening.proofs.read_envelopes.Reads as read-envelopes-reads
-use Rattle.script_opening.proofs.read_tables.Reads as read-tables-reads
 
 read-tables-requires : tie.Need-read-tables-requires
 read-tables-requires c κs = search needs

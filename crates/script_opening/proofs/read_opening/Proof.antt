@@ -9,12 +9,6 @@ use Rattle.script_opening.proofs.Says.{opening-both}
 use borrow.Author.Needs.{needs}
 use Rattle.script_opening.proofs.read_opening.Statement.{statement}
 use Rattle.script_opening.proofs.read_opening.Tie as tie
-use Rattle.script_opening.proofs.read_opening.Reads as reads
-use Rattle.script_opening.proofs.read_opening.Lts as lts
-use Rattle.script_opening.proofs.bad_opening.Reads as bad-opening-reads
-use Rattle.script_opening.proofs.read_lists.Reads as read-lists-reads
-use Rattle.script_records.proofs.format_of.Reads as format-of-reads
-use Rattle.script_records.proofs.read_header.Reads as read-header-reads
 
 read-header-requires : tie.Need-read-header-requires
 read-header-requires c κs = search needs

@@ -8,11 +8,6 @@ use Rattle.script_records.proofs.Laws.{no-kind, kind-past, deliver-kind
 use borrow.Author.Needs.{needs}
 use Rattle.script_records.proofs.action_part.Statement.{statement}
 use Rattle.script_records.proofs.action_part.Tie as tie
-use Rattle.script_records.proofs.action_part.Reads as reads
-use Rattle.script_records.proofs.action_part.Lts as lts
-use Rattle.script_bits.proofs.field8.Reads as field8-reads
-use Rattle.script_records.proofs.envelope_part.Reads as envelope-part-reads
-use Rattle.script_records.proofs.with_envelope.Reads as with-envelope-reads
 
 field8-requires : tie.Need-field8-requires
 field8-requires c κs = search needs

@@ -2,9 +2,6 @@
 use borrow.Author.Needs.{needs}
 use Rattle.script_records.proofs.bad_rule.Statement.{statement}
 use Rattle.script_records.proofs.bad_rule.Tie as tie
-use Rattle.script_records.proofs.bad_rule.Reads as reads
-use Rattle.script_records.proofs.bad_rule.Lts as lts
-use Rattle.script_records.proofs.zero_rule.Reads as zero-rule-reads
 
 zero-rule-requires : tie.Need-zero-rule-requires
 zero-rule-requires c κs = search needs

@@ -11,10 +11,6 @@ use Rattle.script_records.specs.Views.{endingOf}
 use borrow.Author.Needs.{needs}
 use Rattle.script_records.proofs.end_of.Statement.{statement}
 use Rattle.script_records.proofs.end_of.Tie as tie
-use Rattle.script_records.proofs.end_of.Reads as reads
-use Rattle.script_records.proofs.end_of.Lts as lts
-use Rattle.script_bits.proofs.whole.Reads as whole-reads
-use Rattle.script_records.proofs.from.Reads as from-reads
 
 from-requires : tie.Need-from-requires
 from-requires c κs = search needs

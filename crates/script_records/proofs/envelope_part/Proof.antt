@@ -8,10 +8,6 @@ use Rattle.script_records.proofs.Laws.{envelope-at, no-envelope, messag
 use borrow.Author.Needs.{needs}
 use Rattle.script_records.proofs.envelope_part.Statement.{statement}
 use Rattle.script_records.proofs.envelope_part.Tie as tie
-use Rattle.script_records.proofs.envelope_part.Reads as reads
-use Rattle.script_records.proofs.envelope_part.Lts as lts
-use Rattle.script_bits.proofs.field8.Reads as field8-reads
-use Rattle.script_records.proofs.message_part.Reads as message-part-reads
 
 field8-requires : tie.Need-field8-requires
 field8-requires c κs = search needs

@@ -8,9 +8,6 @@ use Rattle.rules.specs.Script.{version1, formatOf}
 use borrow.Author.Needs.{needs}
 use Rattle.script_records.proofs.format_of.Statement.{statement}
 use Rattle.script_records.proofs.format_of.Tie as tie
-use Rattle.script_records.proofs.format_of.Reads as reads
-use Rattle.script_records.proofs.format_of.Lts as lts
-use Rattle.script_records.proofs.version_1.Reads as version-1-reads
 
 either : (b : Bool) (f : Format) → f ≡ choose b f f
 unfolding choose

@@ -7,9 +7,6 @@ use Rattle.rules.specs.Script.{headerOk}
 use borrow.Author.Needs.{needs}
 use Rattle.script_records.proofs.header_fits.Statement.{statement}
 use Rattle.script_records.proofs.header_fits.Tie as tie
-use Rattle.script_records.proofs.header_fits.Reads as reads
-use Rattle.script_records.proofs.header_fits.Lts as lts
-use Rattle.script_records.proofs.known.Reads as known-reads
 
 known-requires : tie.Need-known-requires
 known-requires c κs = search needs

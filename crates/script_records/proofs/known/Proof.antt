@@ -5,8 +5,6 @@ use lib.Dec.{eqb}
 use Rattle.lists.specs.Lists.{any}
 use Rattle.script_records.proofs.known.Statement.{statement}
 use Rattle.script_records.proofs.known.Tie as tie
-use Rattle.script_records.proofs.known.Reads as reads
-use Rattle.script_records.proofs.known.Lts as lts
 
 returns : tie.Need-returns
 unfolding any

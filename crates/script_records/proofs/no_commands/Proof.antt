@@ -4,9 +4,6 @@ use Rattle.rules.specs.Inner.{slotsOf}
 use borrow.Author.Needs.{needs}
 use Rattle.script_records.proofs.no_commands.Statement.{statement}
 use Rattle.script_records.proofs.no_commands.Tie as tie
-use Rattle.script_records.proofs.no_commands.Reads as reads
-use Rattle.script_records.proofs.no_commands.Lts as lts
-use Rattle.script_records.proofs.zero_slot.Reads as zero-slot-reads
 
 zero-slot-requires : tie.Need-zero-slot-requires
 zero-slot-requires c κs = search needs

@@ -10,11 +10,6 @@ use Rattle.script_records.proofs.Says.{action-both}
 use borrow.Author.Needs.{needs}
 use Rattle.script_records.proofs.read_action.Statement.{statement}
 use Rattle.script_records.proofs.read_action.Tie as tie
-use Rattle.script_records.proofs.read_action.Reads as reads
-use Rattle.script_records.proofs.read_action.Lts as lts
-use Rattle.script_records.proofs.action_part.Reads as action-part-reads
-use Rattle.script_records.proofs.end_of.Reads as end-of-reads
-use Rattle.script_records.proofs.from.Reads as from-reads
 
 from-requires : tie.Need-from-requires
 from-requires c κs = search needs

@@ -6,11 +6,6 @@ use Rattle.script_records.proofs.Laws.{tells-at, tells-not, tells-stuck
 use borrow.Author.Needs.{needs}
 use Rattle.script_records.proofs.read_count.Statement.{statement}
 use Rattle.script_records.proofs.read_count.Tie as tie
-use Rattle.script_records.proofs.read_count.Reads as reads
-use Rattle.script_records.proofs.read_count.Lts as lts
-use Rattle.script_bits.proofs.field.Reads as field-reads
-use Rattle.script_records.proofs.end_of.Reads as end-of-reads
-use Rattle.script_records.proofs.from.Reads as from-reads
 
 from-requires : tie.Need-from-requires
 from-requires c κs = search needs

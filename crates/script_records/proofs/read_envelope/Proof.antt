@@ -10,11 +10,6 @@ use Rattle.script_records.proofs.Says.{envelope-both}
 use borrow.Author.Needs.{needs}
 use Rattle.script_records.proofs.read_envelope.Statement.{statement}
 use Rattle.script_records.proofs.read_envelope.Tie as tie
-use Rattle.script_records.proofs.read_envelope.Reads as reads
-use Rattle.script_records.proofs.read_envelope.Lts as lts
-use Rattle.script_records.proofs.end_of.Reads as end-of-reads
-use Rattle.script_records.proofs.envelope_part.Reads as envelope-part-reads
-use Rattle.script_records.proofs.from.Reads as from-reads
 
 from-requires : tie.Need-from-requires
 from-requires c κs = search needs

@@ -6,9 +6,6 @@ use Rattle.script_records.proofs.Says.{count-both}
 use borrow.Author.Needs.{needs}
 use Rattle.script_records.proofs.read_envelope_count.Statement.{statement}
 use Rattle.script_records.proofs.read_envelope_count.Tie as tie
-use Rattle.script_records.proofs.read_envelope_count.Reads as reads
-use Rattle.script_records.proofs.read_envelope_count.Lts as lts
-use Rattle.script_records.proofs.read_count.Reads as read-count-reads
 
 read-count-requires : tie.Need-read-count-requires
 read-count-requires c κs = search needs

@@ -10,12 +10,6 @@ use Rattle.script_records.proofs.Says.{header-both}
 use borrow.Author.Needs.{needs}
 use Rattle.script_records.proofs.read_header.Statement.{statement}
 use Rattle.script_records.proofs.read_header.Tie as tie
-use Rattle.script_records.proofs.read_header.Reads as reads
-use Rattle.script_records.proofs.read_header.Lts as lts
-use Rattle.script_bits.proofs.field8.Reads as field8-reads
-use Rattle.script_records.proofs.end_of.Reads as end-of-reads
-use Rattle.script_records.proofs.from.Reads as from-reads
-use Rattle.script_records.proofs.header_fits.Reads as header-fits-reads
 
 from-requires : tie.Need-from-requires
 from-requires c κs = search needs

@@ -13,14 +13,6 @@ use Rattle.script_records.proofs.Says.{rule-both}
 use borrow.Author.Needs.{needs}
 use Rattle.script_records.proofs.read_rule.Statement.{statement}
 use Rattle.script_records.proofs.read_rule.Tie as tie
-use Rattle.script_records.proofs.read_rule.Reads as reads
-use Rattle.script_records.proofs.read_rule.Lts as lts
-use Rattle.script_bits.proofs.field8.Reads as field8-reads
-use Rattle.script_records.proofs.bad_rule.Reads as bad-rule-reads
-use Rattle.script_records.proofs.commands_part.Reads as commands-part-reads
-use Rattle.script_records.proofs.end_of.Reads as end-of-reads
-use Rattle.script_records.proofs.from.Reads as from-reads
-use Rattle.script_records.proofs.rule_of.Reads as rule-of-reads
 
 from-requires : tie.Need-from-requires
 from-requires c κs = search needs

@@ -8,11 +8,6 @@ use Rattle.script_records.proofs.Laws.{action-size}
 use borrow.Author.Needs.{needs}
 use Rattle.script_records.proofs.rest.Statement.{statement}
 use Rattle.script_records.proofs.rest.Tie as tie
-use Rattle.script_records.proofs.rest.Reads as reads
-use Rattle.script_records.proofs.rest.Lts as lts
-use Rattle.script_records.proofs.from.Reads as from-reads
-use Rattle.script_records.proofs.read_action.Reads as read-action-reads
-use Rattle.script_records.proofs.size_of.Reads as size-of-reads
 
 read-action-requires : tie.Need-read-action-requires
 read-action-requires c κs = search needs

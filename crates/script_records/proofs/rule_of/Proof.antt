@@ -2,10 +2,6 @@
 use borrow.Author.Needs.{needs}
 use Rattle.script_records.proofs.rule_of.Statement.{statement}
 use Rattle.script_records.proofs.rule_of.Tie as tie
-use Rattle.script_records.proofs.rule_of.Reads as reads
-use Rattle.script_records.proofs.rule_of.Lts as lts
-use Rattle.script_bits.proofs.field32.Reads as field32-reads
-use Rattle.script_bits.proofs.field8.Reads as field8-reads
 
 field8-requires : tie.Need-field8-requires
 field8-requires c κs = search needs

@@ -3,8 +3,6 @@ use Rattle.lists.specs.Lists.{choose}
 use borrow.Author.Needs.{needs}
 use Rattle.script_records.proofs.with_envelope.Statement.{statement}
 use Rattle.script_records.proofs.with_envelope.Tie as tie
-use Rattle.script_records.proofs.with_envelope.Reads as reads
-use Rattle.script_records.proofs.with_envelope.Lts as lts
 
 enum-known-x : tie.Need-enum-known-x
 enum-known-x c = search needs

@@ -1,10 +1,6 @@
 use borrow.Author.Needs.{needs}
 use Rattle.steps.proofs.cancel_timer.Statement.{statement}
 use Rattle.steps.proofs.cancel_timer.Tie as tie
-use Rattle.steps.proofs.cancel_timer.Reads as reads
-use Rattle.steps.proofs.cancel_timer.Lts as lts
-use Rattle.steps.proofs.with_timers.Reads as with-timers-reads
-use Rattle.link_timers.proofs.Timers.cancel.Reads as cancel-reads
 
 -- src/lib.rt:87:9
 cancel-requires : tie.Need-cancel-requires

@@ -1,10 +1,6 @@
 use borrow.Author.Needs.{needs}
 use Rattle.steps.proofs.set_timer.Statement.{statement}
 use Rattle.steps.proofs.set_timer.Tie as tie
-use Rattle.steps.proofs.set_timer.Reads as reads
-use Rattle.steps.proofs.set_timer.Lts as lts
-use Rattle.steps.proofs.with_timers.Reads as with-timers-reads
-use Rattle.link_timers.proofs.Timers.set.Reads as set-reads
 
 -- src/lib.rt:80:9
 set-requires : tie.Need-set-requires

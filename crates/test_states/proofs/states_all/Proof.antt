@@ -5,14 +5,6 @@ use Rattle.rules.proofs.Formats.{formats-fine}
 use borrow.Author.Needs.{needs}
 use Rattle.test_states.proofs.states_all.Statement.{statement}
 use Rattle.test_states.proofs.states_all.Tie as tie
-use Rattle.test_states.proofs.states_all.Reads as reads
-use Rattle.test_states.proofs.states_all.Lts as lts
-use Rattle.answers.proofs.is_done.Reads as is-done-reads
-use Rattle.replay_start.proofs.open.Reads as open-reads
-use Rattle.script_records.proofs.format_of.Reads as format-of-reads
-use Rattle.test_states.proofs.put.Reads as put-reads
-use Rattle.test_states.proofs.states_from.Reads as states-from-reads
-use Rattle.test_states.proofs.states_reads.Reads as states-reads-reads
 
 states-reads-requires : tie.Need-states-reads-requires
 states-reads-requires c κs = search needs

@@ -4,9 +4,6 @@ use Rattle.test_states.specs.Views.{isGood}
 use borrow.Author.Needs.{needs}
 use Rattle.test_states.proofs.states_reads.Statement.{statement}
 use Rattle.test_states.proofs.states_reads.Tie as tie
-use Rattle.test_states.proofs.states_reads.Reads as reads
-use Rattle.test_states.proofs.states_reads.Lts as lts
-use Rattle.script_check.proofs.check_script.Reads as check-script-reads
 
 check-script-requires : tie.Need-check-script-requires
 check-script-requires c κs = search needs
