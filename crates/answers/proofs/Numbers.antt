@@ -9,7 +9,8 @@ use lib.ListN.{length, getD, List·getD-eq-default}
 use lib.Dec.{leb}
 use borrow.Author.Tests.{leb-true, leb-false}
 use Rattle.answers.specs.declared.Answer.{Answer}
-use Rattle.answers.specs.declared.Answer.the-variants.{Done, Ignored, OutOfRange, Absent, Live, NotSet, NumbersUsedUp, PendingFull, NetworkFull, NotWellFormed, StartRefused, Unreadable, UnknownName}
+use Rattle.answers.specs.declared.Answer.the-variants.{Done, Ignored, OutOfRange, Absent, Live, NotSet, NumbersUsedUp, PendingFull, NetworkFull}
+use Rattle.answers.specs.declared.Answer.the-variants.{NotWellFormed, StartRefused, Unreadable, UnknownName}
 use Rattle.answers.specs.Answers.{answerNumber, allAnswers, answerOf}
 
 pub number-answer : (a : Answer) → answerOf (answerNumber a) ≡ a

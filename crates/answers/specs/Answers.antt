@@ -5,7 +5,8 @@ use mathlib.Core.Bool.{Bool}
 use lib.ListN.{getD}
 use lib.Dec.{eqb}
 use Rattle.answers.specs.declared.Answer.{Answer}
-use Rattle.answers.specs.declared.Answer.the-variants.{Done, Ignored, OutOfRange, Absent, Live, NotSet, NumbersUsedUp, PendingFull, NetworkFull, NotWellFormed, StartRefused, Unreadable, UnknownName}
+use Rattle.answers.specs.declared.Answer.the-variants.{Done, Ignored, OutOfRange, Absent, Live, NotSet, NumbersUsedUp, PendingFull, NetworkFull}
+use Rattle.answers.specs.declared.Answer.the-variants.{NotWellFormed, StartRefused, Unreadable, UnknownName}
 
 abbrev pub answerNumber : Answer → ℕ
 answerNumber Done = 0

@@ -12,7 +12,9 @@ ghost use Rattle.rules.specs.Program.{replay};
 #[no_mangle]
 pub extern "C" fn scumbradel_replay(script: &[u8], out: &mut [u8]) -> usize
     ensures size { λ r. ⌜ r ≡ length (replay base versions (now (script .entry))) ⌝ }
-    ensures bytes { λ r. ⌜ now (out .exit) ≡ choose (leb r (length (now (out .entry)))) (replay base versions (now (script .entry)) ++ drop r (now (out .entry))) (now (out .entry)) ⌝ }
+    ensures bytes { λ r.
+        ⌜ now (out .exit) ≡ choose (leb r (length (now (out .entry)))) (replay base versions (now (script .entry)) ++ drop r (now (out .entry)))
+        (now (out .entry)) ⌝ }
 {
     replay_script::replay(script, out)
 }

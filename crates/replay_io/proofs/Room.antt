@@ -19,7 +19,8 @@ use Rattle.types.specs.Capacities.{mostBytes}
 use Rattle.types.specs.declared.Action.{Action}
 use Rattle.types.specs.declared.Format.{Format}
 use Rattle.rules.specs.Outcome.{base}
-use Rattle.rules.specs.Script.{versions, formatOf, Item, end, item, Script, headerForm, ruleCountForm, ruleForm, envelopeCountForm, envelopeForm, listsFrom, openingFrom}
+use Rattle.rules.specs.Script.{versions, formatOf, Item, end, item, Script, headerForm, ruleCountForm, ruleForm, envelopeCountForm, envelopeForm, listsFrom}
+use Rattle.rules.specs.Script.{openingFrom}
 use Rattle.rules.specs.Script.{actionForm, tableFrom, envelopesFrom, closed, afterItem, actionsWithin, actionsFrom, scriptFrom, readScript}
 use Rattle.rules.specs.Program.{badWord, line, replay}
 use Rattle.script_check.specs.declared.Layout.{Layout}

@@ -52,20 +52,29 @@ use Rattle.replay_run.specs.Views.{runText, totalsIn, tallyOf, tallied, 
 
 -- ---- totals
 abbrev plus : Totals → Totals → Totals
-plus t u = record { nextCount = t .nextCount + u .nextCount; ignoredCount = t .ignoredCount + u .ignoredCount; refusedCount = t .refusedCount + u .refusedCount }
+plus t u = record {
+  nextCount = t .nextCount + u .nextCount;
+  ignoredCount = t .ignoredCount + u .ignoredCount;
+  refusedCount = t .refusedCount + u .refusedCount;
+}
 
 plus-counted : (k : ℕ) (t u : Totals) → plus t (counted k u) ≡ plus (counted k t) u
 unfolding counted
-plus-counted zero t u = let e : t .nextCount + suc (u .nextCount) ≡ suc (t .nextCount) + u .nextCount = omega arith in λ i. record { nextCount = e i; ignoredCount = t .ignoredCount + u .ignoredCount; refusedCount = t .refusedCount + u .refusedCount }
-plus-counted (suc zero) t u = let e : t .ignoredCount + suc (u .ignoredCount) ≡ suc (t .ignoredCount) + u .ignoredCount = omega arith in λ i. record { nextCount = t .nextCount + u .nextCount; ignoredCount = e i; refusedCount = t .refusedCount + u .refusedCount }
-plus-counted (suc (suc k)) t u = let e : t .refusedCount + suc (u .refusedCount) ≡ suc (t .refusedCount) + u .refusedCount = omega arith in λ i. record { nextCount = t .nextCount + u .nextCount; ignoredCount = t .ignoredCount + u .ignoredCount; refusedCount = e i }
+plus-counted zero t u = let e : t .nextCount + suc (u .nextCount) ≡ suc (t .nextCount) + u .nextCount = omega arith in
+    λ i. record { nextCount = e i; ignoredCount = t .ignoredCount + u .ignoredCount; refusedCount = t .refusedCount + u .refusedCount }
+plus-counted (suc zero) t u = let e : t .ignoredCount + suc (u .ignoredCount) ≡ suc (t .ignoredCount) + u .ignoredCount = omega arith in
+    λ i. record { nextCount = t .nextCount + u .nextCount; ignoredCount = e i; refusedCount = t .refusedCount + u .refusedCount }
+plus-counted (suc (suc k)) t u = let e : t .refusedCount + suc (u .refusedCount) ≡ suc (t .refusedCount) + u .refusedCount = omega arith in
+    λ i. record { nextCount = t .nextCount + u .nextCount; ignoredCount = t .ignoredCount + u .ignoredCount; refusedCount = e i }
 
 plus-none : (t : Totals) → plus t (totals []) ≡ t
 unfolding totals
-plus-none t = let a : t .nextCount + 0 ≡ t .nextCount = omega arith in let b : t .ignoredCount + 0 ≡ t .ignoredCount = omega arith in let c : t .refusedCount + 0 ≡ t .refusedCount = omega arith in λ i. record { nextCount = a i; ignoredCount = b i; refusedCount = c i }
+plus-none t = let a : t .nextCount + 0 ≡ t .nextCount = omega arith in let b : t .ignoredCount + 0 ≡ t .ignoredCount = omega arith in
+    let c : t .refusedCount + 0 ≡ t .refusedCount = omega arith in λ i. record { nextCount = a i; ignoredCount = b i; refusedCount = c i }
 
 none-plus : (t : Totals) → t ≡ plus (record { nextCount = 0; ignoredCount = 0; refusedCount = 0 }) t
-none-plus t = let a : t .nextCount ≡ 0 + t .nextCount = omega arith in let b : t .ignoredCount ≡ 0 + t .ignoredCount = omega arith in let c : t .refusedCount ≡ 0 + t .refusedCount = omega arith in λ i. record { nextCount = a i; ignoredCount = b i; refusedCount = c i }
+none-plus t = let a : t .nextCount ≡ 0 + t .nextCount = omega arith in let b : t .ignoredCount ≡ 0 + t .ignoredCount = omega arith in
+    let c : t .refusedCount ≡ 0 + t .refusedCount = omega arith in λ i. record { nextCount = a i; ignoredCount = b i; refusedCount = c i }
 
 -- one more in all
 pub sum-counted : (k : ℕ) (t : Tally) → tallied k t .next + tallied k t .ignored + tallied k t .refused ≡ suc (t .next + t .ignored + t .refused)
@@ -82,11 +91,13 @@ pub tallied-one : (n : ℕ) (t : Tally) → n ≡ 1 → _≡_ {A = Tally} (recor
 unfolding counted
 tallied-one n t e = let w : t .ignored + 1 ≡ suc (t .ignored) = omega arith in rw e (λ i. record { next = t .next; ignored = w i; refused = t .refused })
 
-pub tallied-more : (n : ℕ) (t : Tally) → (n ≡ 0 → ⊥) → (n ≡ 1 → ⊥) → _≡_ {A = Tally} (record { next = t .next; ignored = t .ignored; refused = t .refused + 1 }) (tallied n t)
+pub tallied-more : (n : ℕ) (t : Tally) → (n ≡ 0 → ⊥) → (n ≡ 1 → ⊥)
+    → _≡_ {A = Tally} (record { next = t .next; ignored = t .ignored; refused = t .refused + 1 }) (tallied n t)
 unfolding counted
 tallied-more zero t e f = absurd (e refl)
 tallied-more (suc zero) t e f = absurd (f refl)
-tallied-more (suc (suc n)) t e f = let w : t .refused + 1 ≡ suc (t .refused) = omega arith in λ i. record { next = t .next; ignored = t .ignored; refused = w i }
+tallied-more (suc (suc n)) t e f = let w : t .refused + 1 ≡ suc (t .refused) = omega arith in
+    λ i. record { next = t .next; ignored = t .ignored; refused = w i }
 
 -- ---- what is left to write
 abbrev pub restText : rules.Sys → Totals → List Action → List ℕ
@@ -97,7 +108,8 @@ unfolding runText
 rest-start m l = ap (λ (t : Totals). actionLines base m l ++ doneLine t) (none-plus (totals (answers base m l)))
 
 rest-next : (m : rules.Sys) (t : Totals) (a : Action) (l : List Action)
-    → restText m t (a ∷ l) ≡ answerLine (answer (step base m a)) (size (after m (step base m a))) ++ restText (after m (step base m a)) (counted (answer (step base m a)) t) l
+    → restText m t (a ∷ l) ≡ answerLine (answer (step base m a)) (size (after m (step base m a)))
+    ++ restText (after m (step base m a)) (counted (answer (step base m a)) t) l
 unfolding actionLines answers totals
 rest-next m t a l =
     let k = answer (step base m a) in
@@ -129,9 +141,11 @@ module _ (f : Format) (s : List ℕ) (at : ℕ) {ys : List ℕ} {q : ℕ} where
       let x : b ≡ a = cc in
       let y : p ≡ r = cc in
       let w = span f s at p h in
-      subst (λ (k : ℕ). Acts f s at ys q (b ∷ more) a k) y (record { more = more; all = ap (λ (c : Action). c ∷ more) x; reads = g; on = w .0; within = w .1; here = w .2 })
+      subst (λ (k : ℕ). Acts f s at ys q (b ∷ more) a k) y
+      (record { more = more; all = ap (λ (c : Action). c ∷ more) x; reads = g; on = w .0; within = w .1; here = w .2 })
 
-  pub acts : {l : List Action} (a : Action) (r : ℕ) → actionsFrom f (drop at s) at ≡ read l ys q → actionRead (one (actionForm f) (drop at s) at) ≡ Act a r → Acts f s at ys q l a r
+  pub acts : {l : List Action} (a : Action) (r : ℕ) → actionsFrom f (drop at s) at ≡ read l ys q → actionRead (one (actionForm f) (drop at s) at) ≡ Act a r
+      → Acts f s at ys q l a r
   acts a r g e = acts-of a r (coming f s at g) e
 
   ends-of : {l : List Action} (r : ℕ) → Coming f s at ys q l → actionRead (one (actionForm f) (drop at s) at) ≡ End r → (l ≡ []) × (at < length s)
@@ -141,7 +155,8 @@ module _ (f : Format) (s : List ℕ) (at : ℕ) {ys : List ℕ} {q : ℕ} where
       let z : _≡_ {A = ℕ} 0 1 = cc in
       absurd (omega arith)
 
-  pub ends : {l : List Action} (r : ℕ) → actionsFrom f (drop at s) at ≡ read l ys q → actionRead (one (actionForm f) (drop at s) at) ≡ End r → (l ≡ []) × (at < length s)
+  pub ends : {l : List Action} (r : ℕ) → actionsFrom f (drop at s) at ≡ read l ys q → actionRead (one (actionForm f) (drop at s) at) ≡ End r
+      → (l ≡ []) × (at < length s)
   ends r g e = ends-of r (coming f s at g) e
 
   never-of : {l : List Action} (r : ℕ) → Coming f s at ys q l → actionRead (one (actionForm f) (drop at s) at) ≡ Bad r → ⊥
@@ -201,7 +216,8 @@ module _ (s : System) where
 
     -- What is left to write: this line, and then what is left after it.
     pub rest-on : (t : Tally) (l : List Action) → restText m (totalsIn t) (a ∷ l)
-        ≡ answerLine (answerNumber (x .answer)) (len (netView (x .network) .entries)) ++ restText (sysView cur) (totalsIn (tallied (answerNumber (x .answer)) t)) l
+        ≡ answerLine (answerNumber (x .answer)) (len (netView (x .network) .entries))
+        ++ restText (sysView cur) (totalsIn (tallied (answerNumber (x .answer)) t)) l
     unfolding size
     rest-on t l =
         rest-next m (totalsIn t) a l
@@ -209,7 +225,8 @@ module _ (s : System) where
 
 -- ---- the loop
 -- After some actions: the system now, what is left to do, and what was written.
-pub record Turn (script : List ℕ) (from : ℕ) (f : Format) (s₀ : System) (out₀ : List ℕ) (place : ℕ) (write : Bool) (s : System) (t : Tally) (at : ℕ) (end : ℕ) (out : List ℕ) : Type 0 where
+pub record Turn (script : List ℕ) (from : ℕ) (f : Format) (s₀ : System) (out₀ : List ℕ) (place : ℕ) (write : Bool) (s : System) (t : Tally) (at : ℕ)
+    (end : ℕ) (out : List ℕ) : Type 0 where
   pub runs : Runs script from f s₀ out₀ place write
   pub ready : Ready s
   pub actions : List Action
@@ -279,7 +296,8 @@ module _ {script : List ℕ} {from : ℕ} {f : Format} {s₀ : System} {out₀ :
         reads = going .reads;
         told = g .told ++ text;
         piece = piece-then (g .told) text
-            (fits-first write place (g .told ++ text) later out₀ (subst (λ (l : List ℕ). Fits write place l out₀) (ap (λ (l : List ℕ). g .told ++ l) splits ∙ sym (append-assoc (g .told) text later)) room))
+            (fits-first write place (g .told ++ text) later out₀
+            (subst (λ (l : List ℕ). Fits write place l out₀) (ap (λ (l : List ℕ). g .told ++ l) splits ∙ sym (append-assoc (g .told) text later)) room))
             (g .piece) p;
         same = g .same ∙ ap (λ (l : List ℕ). g .told ++ l) splits ∙ sym (append-assoc (g .told) text later);
         few = omega (arith, g .few, going .on, sum-counted (answerNumber (x .answer)) t);

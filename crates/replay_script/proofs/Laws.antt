@@ -58,13 +58,16 @@ number-back n h =
 
 -- The start's answer and length, and the system that it left.
 pub data Begun : Outcome Next → Answered → Type 0 where
-  ran : (x : Next) {r : Answered} → isDone (r .answer) ≡ true → answerNumber (r .answer) ≡ 0 → Ready (r .system) → sysView (r .system) ≡ x .sys → Begun (done x) r
+  ran : (x : Next) {r : Answered} → isDone (r .answer) ≡ true → answerNumber (r .answer) ≡ 0 → Ready (r .system) → sysView (r .system) ≡ x .sys
+      → Begun (done x) r
   not-ran : (n : ℕ) {r : Answered} → isDone (r .answer) ≡ false → answerNumber (r .answer) ≡ n → r .system ≡ systemOf blank → Begun (refused n) r
 
-begun-of : (m : Outcome Next) → Holds (λ (x : Next). wellFormed base (x .sys) ≡ true) m → (answer m ≡ 0 → (x : Next) × (m ≡ done x)) → (answer m ≡ 0) ⊎ (startNumbers (answer m) ≡ true)
+begun-of : (m : Outcome Next) → Holds (λ (x : Next). wellFormed base (x .sys) ≡ true) m → (answer m ≡ 0 → (x : Next) × (m ≡ done x))
+    → (answer m ≡ 0) ⊎ (startNumbers (answer m) ≡ true)
     → Begun m (answeredOf (systemOf blank) (systems m))
 unfolding systems answer answerOf
-begun-of (done x) h z w = let f = h .value x refl in ran x refl refl (record { laid = image-laid (x .sys) f; formed = rw (system-back (x .sys) f) f }) (system-back (x .sys) f)
+begun-of (done x) h z w = let f = h .value x refl in
+    ran x refl refl (record { laid = image-laid (x .sys) f; formed = rw (system-back (x .sys) f) f }) (system-back (x .sys) f)
 begun-of (refused n) h z (inl e) = let y = z e in let q : _≡_ {A = ℕ} 0 1 = cc in absurd (omega arith)
 begun-of (refused n) h z (inr e) = let y = number-back n e in not-ran n (y .1) (y .0) refl
 
@@ -78,7 +81,10 @@ module _ (s : List ℕ) (p : Parts versions s) where
   said = rw (p .reads)
 
   pub begun : (r : Answered) → r ≡ answeredOf (systemOf blank) (systems m) → Begun m r
-  begun r e = subst (Begun m) (sym e) (begun-of m (start-well base (p .opening .kind) (p .opening .tables) (p .opening .envelopes)) (start-done base (p .opening .kind) (p .opening .tables) (p .opening .envelopes)) (start-answers base (p .opening .kind) (p .opening .tables) (p .opening .envelopes)))
+  begun r e = subst (Begun m) (sym e)
+      (begun-of m (start-well base (p .opening .kind) (p .opening .tables) (p .opening .envelopes))
+      (start-done base (p .opening .kind) (p .opening .tables) (p .opening .envelopes))
+      (start-answers base (p .opening .kind) (p .opening .tables) (p .opening .envelopes)))
 
 pub number-is : {m : Outcome Next} {r : Answered} → Begun m r → answerNumber (r .answer) ≡ answer m
 unfolding answer
@@ -96,7 +102,8 @@ used-fits {r = r} (ran x d e f g) = net-fits (r .system) f
 used-fits (not-ran n d e f) = rw f (lit≤ tt)
 
 -- the lines after the start's
-pub then-runs : {m : Outcome Next} {r : Answered} → Begun m r → isDone (r .answer) ≡ true → (l : List Action) → runLines base m l ≡ runText (sysView (r .system)) l
+pub then-runs : {m : Outcome Next} {r : Answered} → Begun m r → isDone (r .answer) ≡ true → (l : List Action)
+    → runLines base m l ≡ runText (sysView (r .system)) l
 unfolding runLines runText
 then-runs (ran x d e f g) h l = rw g
 then-runs (not-ran n d e f) h l = absurd (true≢false (sym h ∙ d))
@@ -105,13 +112,15 @@ pub is-ready : {m : Outcome Next} {r : Answered} → Begun m r → isDone (r .an
 is-ready (ran x d e f g) h = f
 is-ready (not-ran n d e f) h = absurd (true≢false (sym h ∙ d))
 
-pub then-ends : {m : Outcome Next} {r : Answered} → Begun m r → isDone (r .answer) ≡ false → (l : List Action) → runLines base m l ≡ line doneWord (0 ∷ 0 ∷ 0 ∷ [])
+pub then-ends : {m : Outcome Next} {r : Answered} → Begun m r → isDone (r .answer) ≡ false → (l : List Action)
+    → runLines base m l ≡ line doneWord (0 ∷ 0 ∷ 0 ∷ [])
 unfolding runLines doneLine totals
 then-ends (ran x d e f g) h l = absurd (true≢false (sym d ∙ h))
 then-ends (not-ran n d e f) h l = refl
 
 -- ---- the start's line, then the others
-module _ (s : List ℕ) (p : Parts versions s) (r : Answered) (b : Begun (m s p) r) (write : Bool) (out : List ℕ) (room : Fits write 0 (replay base versions s) out)
+module _ (s : List ℕ) (p : Parts versions s) (r : Answered) (b : Begun (m s p) r) (write : Bool) (out : List ℕ)
+    (room : Fits write 0 (replay base versions s) out)
     (n k : ℕ) (en : n ≡ answerNumber (r .answer)) (ek : k ≡ len (netView (r .system .network) .entries)) where
   abbrev others : List ℕ
   others = runLines base (m s p) (p .actions)
@@ -137,17 +146,21 @@ module _ (s : List ℕ) (p : Parts versions s) (r : Answered) (b : Begun (m s p)
     others-fit = fits-then first others all-fits q
 
     joined : {l left : List ℕ} {e : ℕ} → others ≡ l → Piece write at l mid e left → Piece write 0 (replay base versions s) out e left
-    joined {l} {left} {e} h t = subst (λ (x : List ℕ). Piece write 0 x out e left) (sym all-is) (piece-then first others all-fits q (subst (λ (x : List ℕ). Piece write at x mid e left) (sym h) t))
+    joined {l} {left} {e} h t =
+        subst (λ (x : List ℕ). Piece write 0 x out e left) (sym all-is)
+        (piece-then first others all-fits q (subst (λ (x : List ℕ). Piece write at x mid e left) (sym h) t))
 
     -- a refused start
     pub ends-fit : isDone (r .answer) ≡ false → Fits write at (line doneWord (0 ∷ 0 ∷ 0 ∷ [])) mid
     ends-fit h = subst (λ (l : List ℕ). Fits write at l mid) (then-ends b h (p .actions)) others-fit
 
-    pub ends-all : isDone (r .answer) ≡ false → {left : List ℕ} {e : ℕ} → Piece write at (line doneWord (0 ∷ 0 ∷ 0 ∷ [])) mid e left → Piece write 0 (replay base versions s) out e left
+    pub ends-all : isDone (r .answer) ≡ false → {left : List ℕ} {e : ℕ} → Piece write at (line doneWord (0 ∷ 0 ∷ 0 ∷ [])) mid e left
+        → Piece write 0 (replay base versions s) out e left
     ends-all h t = joined (then-ends b h (p .actions)) t
 
     -- a start that is done
-    pub runs-so : isDone (r .answer) ≡ true → (from : ℕ) (f : Format) → from ≡ p .next → f ≡ formatOf versions (p .opening .version) → at ≤ 80 → Runs s from f (r .system) mid at write
+    pub runs-so : isDone (r .answer) ≡ true → (from : ℕ) (f : Format) → from ≡ p .next → f ≡ formatOf versions (p .opening .version) → at ≤ 80
+        → Runs s from f (r .system) mid at write
     runs-so h from f e v small = record {
       actions = p .actions;
       left = p .left;
@@ -160,14 +173,17 @@ module _ (s : List ℕ) (p : Parts versions s) (r : Answered) (b : Begun (m s p)
       small = small;
     }
 
-    pub runs-all : isDone (r .answer) ≡ true → {left : List ℕ} {e : ℕ} → Piece write at (runText (sysView (r .system)) (p .actions)) mid e left → Piece write 0 (replay base versions s) out e left
+    pub runs-all : isDone (r .answer) ≡ true → {left : List ℕ} {e : ℕ} → Piece write at (runText (sysView (r .system)) (p .actions)) mid e left
+        → Piece write 0 (replay base versions s) out e left
     runs-all h t = joined (then-runs b h (p .actions)) t
 
 -- The output of a good layout is no longer than the bound.
 pub good-longest : (s : List ℕ) (p : Parts versions s) → length (replay base versions s) ≤ longest (length s)
 good-longest s p =
     subst (λ (l : List ℕ). length l ≤ longest (length s)) (sym (said s p))
-    (whole-short (formatOf versions (p .opening .version)) (m s p) s (p .next) (p .actions) (start-well base (p .opening .kind) (p .opening .tables) (p .opening .envelopes)) (start-answers base (p .opening .kind) (p .opening .tables) (p .opening .envelopes)) (p .short) (p .readsActions))
+    (whole-short (formatOf versions (p .opening .version)) (m s p) s (p .next) (p .actions)
+    (start-well base (p .opening .kind) (p .opening .tables) (p .opening .envelopes))
+    (start-answers base (p .opening .kind) (p .opening .tables) (p .opening .envelopes)) (p .short) (p .readsActions))
 
 -- ---- a script whose layout is bad
 said-bad : (s : List ℕ) (p : ℕ) → layoutOf (readScript versions s) ≡ layout.Bad p → replay base versions s ≡ line badWord (p ∷ [])
@@ -179,7 +195,8 @@ said-bad s p e = go (readScript versions s) e
     go (badAt q) h = let z : q ≡ p = cc in rw z
 
 -- ---- the buffer
-pub told-bad : (s : List ℕ) (p : ℕ) {out left : List ℕ} {r : ℕ} → layoutOf (readScript versions s) ≡ layout.Bad p → Told (line badWord (p ∷ [])) out r left → Told (replay base versions s) out r left
+pub told-bad : (s : List ℕ) (p : ℕ) {out left : List ℕ} {r : ℕ} → layoutOf (readScript versions s) ≡ layout.Bad p → Told (line badWord (p ∷ [])) out r left
+    → Told (replay base versions s) out r left
 told-bad s p {out} {left} {r} e t = subst (λ (l : List ℕ). Told l out r left) (sym (said-bad s p e)) t
 
 pub told-all : {l out left : List ℕ} {r : ℕ} → Piece true 0 l out r left → length l ≤ length out → Told l out r left

@@ -94,7 +94,8 @@ unfolding totals counted
 sum-is [] = refl
 sum-is (n ∷ l) = go n (totals l) ∙ ap suc (sum-is l)
   where
-    go : (n : ℕ) (t : Totals) → counted n t .nextCount + counted n t .ignoredCount + counted n t .refusedCount ≡ suc (t .nextCount + t .ignoredCount + t .refusedCount)
+    go : (n : ℕ) (t : Totals)
+        → counted n t .nextCount + counted n t .ignoredCount + counted n t .refusedCount ≡ suc (t .nextCount + t .ignoredCount + t .refusedCount)
     go zero t = omega arith
     go (suc zero) t = omega arith
     go (suc (suc n)) t = omega arith
@@ -116,7 +117,8 @@ unfolding doneLine totals
 none-short = length-line _ _ (omega arith, (omega arith, (omega arith, tt))) (omega arith)
 
 -- ---- all of it
-start-short : (m : Outcome Next) → Holds (λ (x : Next). wellFormed base (x .sys) ≡ true) m → (answer m ≡ 0) ⊎ (startNumbers (answer m) ≡ true) → length (startLine m) ≤ 80
+start-short : (m : Outcome Next) → Holds (λ (x : Next). wellFormed base (x .sys) ≡ true) m → (answer m ≡ 0) ⊎ (startNumbers (answer m) ≡ true)
+    → length (startLine m) ≤ 80
 unfolding startLine answer after size blank boot len all
 start-short (done x) h w = length-line _ _ (omega arith, (omega (arith, size-small (x .sys) (h .value x refl)), tt)) (omega arith)
 start-short (refused n) h (inl e) = length-line _ _ (omega (arith, e), (omega arith, tt)) (omega arith)
@@ -125,14 +127,16 @@ start-short (refused n) h (inr e) =
     let y = all-in (λ k. leb k 10) (6 ∷ 7 ∷ 8 ∷ 10 ∷ []) refl (x .0) (x .1) in
     length-line _ _ (omega (arith, eqb-true n (x .0) (x .2), leb-true (x .0) 10 y), (omega arith, tt)) (omega arith)
 
-run-short : (m : Outcome Next) (l : List Action) → Holds (λ (x : Next). wellFormed base (x .sys) ≡ true) m → length l ≤ mostBytes → length (runLines base m l) ≤ 23 * length l + 80
+run-short : (m : Outcome Next) (l : List Action) → Holds (λ (x : Next). wellFormed base (x .sys) ≡ true) m → length l ≤ mostBytes
+    → length (runLines base m l) ≤ 23 * length l + 80
 unfolding runLines
 run-short (done x) l h k =
     let e = length-append (actionLines base (x .sys) l) (doneLine (totals (answers base (x .sys) l))) in
     omega (arith, e, lines-short (x .sys) l (h .value x refl), done-short (x .sys) l k)
 run-short (refused n) l h k = omega (arith, none-short)
 
-pub whole-short : (f : Format) (m : Outcome Next) (s : List ℕ) (at : ℕ) (l : List Action) {ys : List ℕ} {q : ℕ} → Holds (λ (x : Next). wellFormed base (x .sys) ≡ true) m → (answer m ≡ 0) ⊎ (startNumbers (answer m) ≡ true)
+pub whole-short : (f : Format) (m : Outcome Next) (s : List ℕ) (at : ℕ) (l : List Action) {ys : List ℕ} {q : ℕ}
+    → Holds (λ (x : Next). wellFormed base (x .sys) ≡ true) m → (answer m ≡ 0) ⊎ (startNumbers (answer m) ≡ true)
     → length s ≤ mostBytes → actionsFrom f (drop at s) at ≡ read l ys q → length (startLine m ++ runLines base m l) ≤ longest (length s)
 whole-short f m s at l h w k e =
     let n = fewer f s at l (coming f s at e) in

@@ -83,7 +83,9 @@ fn put_bad(out: &mut [u8], place: usize) -> usize
 // Answers how long the output is. It stands at the start of the buffer if it fits there; else nothing was written.
 pub fn replay(script: &[u8], out: &mut [u8]) -> usize
     ensures size { λ r. ⌜ r ≡ length (replay base versions (now (script .entry))) ⌝ }
-    ensures bytes { λ r. ⌜ now (out .exit) ≡ choose (leb r (length (now (out .entry)))) (replay base versions (now (script .entry)) ++ drop r (now (out .entry))) (now (out .entry)) ⌝ }
+    ensures bytes { λ r.
+        ⌜ now (out .exit) ≡ choose (leb r (length (now (out .entry)))) (replay base versions (now (script .entry)) ++ drop r (now (out .entry)))
+        (now (out .entry)) ⌝ }
 {
     let layout = check_script(script);
     match layout {

@@ -17,7 +17,8 @@ use Rattle.types.specs.declared.Rule.{Rule}
 use Rattle.layout.specs.Read.{read, badAt, Reader, one, onward, joining, repeat}
 use Rattle.rules.specs.Outcome.{guard, base}
 use Rattle.rules.specs.Start.{blank, start}
-use Rattle.rules.specs.Script.{Header, Opening, versions, formatOf, Fine, headerForm, ruleCountForm, ruleForm, envelopeCountForm, envelopeForm, tableFrom, envelopesFrom, listsFrom, openingFrom}
+use Rattle.rules.specs.Script.{Header, Opening, versions, formatOf, Fine, headerForm, ruleCountForm, ruleForm, envelopeCountForm, envelopeForm, tableFrom}
+use Rattle.rules.specs.Script.{envelopesFrom, listsFrom, openingFrom}
 use Rattle.rules.proofs.Formats.{formats-fine}
 use Rattle.parts.specs.Parts.{systems}
 use Rattle.link_inner.specs.declared.Table.{Table}
@@ -77,7 +78,8 @@ pub record Laid (o : Opening) : Type 0 where
   pub tables : all (λ rs. tableLaid (tableAs rs)) (o .tables) ≡ true
   pub given : length (o .envelopes) ≤ mostEntries
 
-lists-laid : (f : Format) (h : Header) (xs : List ℕ) (p : ℕ) {o : Opening} {ys : List ℕ} {q : ℕ} → Fine f → h .actors ≤ mostActors → listsFrom f h xs p ≡ read o ys q → Laid o
+lists-laid : (f : Format) (h : Header) (xs : List ℕ) (p : ℕ) {o : Opening} {ys : List ℕ} {q : ℕ} → Fine f → h .actors ≤ mostActors
+    → listsFrom f h xs p ≡ read o ys q → Laid o
 unfolding listsFrom
 lists-laid f h xs p {o} {ys} {q} fine few e =
     let t = both (repeat (h .actors) (tableFrom f) xs p) _ e in
@@ -91,7 +93,8 @@ pub opening-laid : (xs : List ℕ) {o : Opening} {ys : List ℕ} {q : ℕ} → o
 unfolding openingFrom
 opening-laid xs e =
     let h = both (one (headerForm versions) xs 0) (λ h. listsFrom (formatOf versions (h .version)) h) e in
-    lists-laid (formatOf versions (h .value .version)) (h .value) (h .left) (h .place) (formats-fine (h .value .version)) (few-actors versions xs 0 (h .first)) (h .second)
+    lists-laid (formatOf versions (h .value .version)) (h .value) (h .left) (h .place) (formats-fine (h .value .version))
+    (few-actors versions xs 0 (h .first)) (h .second)
 
 -- ---- the start finds it there
 module _ {o : Opening} (w : Laid o) {tables : List Table} (laid : tables ≡ pad mostActors zeroTable (map tableAs (o .tables))) where

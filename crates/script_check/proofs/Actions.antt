@@ -46,7 +46,8 @@ module _ (f : Format) where
 
   -- ---- any count of records above the length is enough
   same-item
-      : (xs : List ℕ) (p : ℕ) (g : Got Item) (j h : Reader (List Action)) → ((a : Action) (n : ℕ) → g ≡ got (item a) n → j (drop n xs) (p + n) ≡ h (drop n xs) (p + n))
+      : (xs : List ℕ) (p : ℕ) (g : Got Item) (j h : Reader (List Action))
+      → ((a : Action) (n : ℕ) → g ≡ got (item a) n → j (drop n xs) (p + n) ≡ h (drop n xs) (p + n))
       → onward (placed g xs p) (λ i. afterItem i j) ≡ onward (placed g xs p) (λ i. afterItem i h)
   unfolding onward placed afterItem
   same-item xs p (got end n) j h e = refl
@@ -66,7 +67,8 @@ module _ (f : Format) where
   -- ---- the actions from a place on, by the first record there
   module _ (s : List ℕ) (at r : ℕ) where
     pub from-item
-        : {a : Action} → one (actionForm f) (drop at s) at ≡ read (item a) (drop r s) r → actionsFrom f (drop at s) at ≡ onward (actionsFrom f (drop r s) r) (joining a)
+        : {a : Action} → one (actionForm f) (drop at s) at ≡ read (item a) (drop r s) r
+        → actionsFrom f (drop at s) at ≡ onward (actionsFrom f (drop r s) r) (joining a)
     unfolding actionsFrom actionsWithin onward afterItem
     from-item {a} h =
         let w = span s at r h in
@@ -110,7 +112,8 @@ module _ (f : Format) where
   is-end (item b) xs p {q} e = let z : _≡_ {A = ℕ} 0 1 = cc in absurd (omega arith)
 
   module _ (s : List ℕ) (at : ℕ) where
-    pub act-read : {a : Action} {r : ℕ} → Act a r ≡ actionRead (one (actionForm f) (drop at s) at) → one (actionForm f) (drop at s) at ≡ read (item a) (drop r s) r
+    pub act-read : {a : Action} {r : ℕ} → Act a r ≡ actionRead (one (actionForm f) (drop at s) at)
+        → one (actionForm f) (drop at s) at ≡ read (item a) (drop r s) r
     act-read {a} {r} e =
         let w = told-found action-tells (one (actionForm f)) s at e (kept-one (actionForm f)) refl in
         w .reads ∙ ap (λ (i : Item). read i (drop r s) r) (is-item (w .value) (drop r s) r (w .told))
@@ -143,7 +146,8 @@ module _ (f : Format) where
     abbrev pub here : Layout
     here = layoutOf (actionsFrom f (drop at s) at)
 
-    pub layout-act : {a : Action} {r : ℕ} → Act a r ≡ actionRead (one (actionForm f) (drop at s) at) → (here ≡ layoutOf (actionsFrom f (drop r s) r)) × (at < r) × (r ≤ length s) × (at < length s)
+    pub layout-act : {a : Action} {r : ℕ} → Act a r ≡ actionRead (one (actionForm f) (drop at s) at)
+        → (here ≡ layoutOf (actionsFrom f (drop r s) r)) × (at < r) × (r ≤ length s) × (at < length s)
     layout-act {a} {r} e =
         let h = act-read s at e in
         let w = span s at r h in

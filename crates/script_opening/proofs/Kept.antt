@@ -7,7 +7,8 @@ use mathlib.Core.List.{List, [], _∷_}
 use lib.ListN.{drop}
 use Rattle.layout.specs.Read.{Reading, read, badAt, Reader, one, onward, joining, repeat}
 use Rattle.types.specs.declared.Format.{Format}
-use Rattle.rules.specs.Script.{Header, headerForm, ruleCountForm, ruleForm, envelopeCountForm, envelopeForm, formatOf, tableFrom, envelopesFrom, listsFrom, openingFrom}
+use Rattle.rules.specs.Script.{Header, headerForm, ruleCountForm, ruleForm, envelopeCountForm, envelopeForm, formatOf, tableFrom, envelopesFrom, listsFrom}
+use Rattle.rules.specs.Script.{openingFrom}
 pub use Rattle.script_opening.proofs.Readings.{Kept, kept-one}
 
 -- ---- first one reading, then another
@@ -71,4 +72,5 @@ kept-lists f h =
 pub kept-opening : (known : List Format) → Kept (openingFrom known)
 unfolding openingFrom
 kept-opening known =
-    kept-onward (one (headerForm known)) (λ h. listsFrom (formatOf known (h .version)) h) (kept-one (headerForm known)) (λ h. kept-lists (formatOf known (h .version)) h)
+    kept-onward (one (headerForm known)) (λ h. listsFrom (formatOf known (h .version)) h) (kept-one (headerForm known))
+    (λ h. kept-lists (formatOf known (h .version)) h)

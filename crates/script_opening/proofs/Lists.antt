@@ -39,7 +39,8 @@ module _ {A B : Type 0} (g : A → B) (f : Reader A) where
   -- so many, one after another: first one, then the others
   repeat-on
       : (n : ℕ) (m : Reading A) → ((xs : List ℕ) (p : ℕ) → repeat n changing xs p ≡ changed (map g) (repeat n f xs p))
-      → onward (changed g m) (λ b ys q. onward (repeat n changing ys q) (joining b)) ≡ changed (map g) (onward m (λ a ys q. onward (repeat n f ys q) (joining a)))
+      → onward (changed g m) (λ b ys q. onward (repeat n changing ys q) (joining b))
+      ≡ changed (map g) (onward m (λ a ys q. onward (repeat n f ys q) (joining a)))
   unfolding onward
   repeat-on n (read a ys q) h = ap (λ (m : Reading (List B)). onward m (joining (g a))) (h ys q) ∙ joined a (repeat n f ys q)
   repeat-on n (badAt q) h = refl

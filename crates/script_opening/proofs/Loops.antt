@@ -33,7 +33,8 @@ module _ {A : Type 0} (n : ℕ) (z : A) (f : Reader A) (s : List ℕ) (at count 
         let k : count - i ≡ suc (count - (i + 1)) = omega arith in
         r .ahead ∙ ap (λ (j : ℕ). gathered (take i es) (repeat j f (drop next s) next)) k
 
-    pub reads-more : {a : A} {after : ℕ} → count ≤ n → i < count → f (drop next s) next ≡ read a (drop after s) after → Reads n z f s at count (set es i a) after (i + 1)
+    pub reads-more : {a : A} {after : ℕ} → count ≤ n → i < count → f (drop next s) next ≡ read a (drop after s) after
+        → Reads n z f s at count (set es i a) after (i + 1)
     reads-more {a} {after} room l e =
         let w : es ≡ pad n z (take i es) = r .laid in
         record {

@@ -41,7 +41,8 @@ module _ (f : Format) (s : List ℕ) (at : ℕ) (h : Header) {t : TablesRead} (e
     pub no-envelopes : u .found ≡ false → openingRead (badAt (u .next)) ≡ openingRead (listsFrom f h (drop at s) at)
     unfolding onward
     no-envelopes k =
-        sym (ap openingRead (first ∙ ap (λ (m : Reading (List Envelope)). onward m (behind (w .value))) (told-bad envelopes-tell (envelopesFrom f) s (t .next) d k)))
+        sym (ap openingRead (first
+        ∙ ap (λ (m : Reading (List Envelope)). onward m (behind (w .value))) (told-bad envelopes-tell (envelopesFrom f) s (t .next) d k)))
 
     pub both-lists
         : u .found ≡ true

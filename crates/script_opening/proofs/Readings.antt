@@ -83,7 +83,8 @@ module _
   told-by : (m : Reading A) → f (drop at s) at ≡ m → t ≡ out m → Kept f → good t ≡ true → Told out place f s at t
   told-by (read a ys p) h e kept g =
       let q : p ≡ place t = sym (ap place e ∙ k .yes a ys p .1) in
-      let w : read a ys p ≡ read a (drop (place t) s) (place t) = ap (λ (zs : List ℕ). read a zs p) (kept s at a ys p h) ∙ ap (λ (j : ℕ). read a (drop j s) j) q in
+      let w : read a ys p ≡ read a (drop (place t) s) (place t) =
+      ap (λ (zs : List ℕ). read a zs p) (kept s at a ys p h) ∙ ap (λ (j : ℕ). read a (drop j s) j) q in
       record { value = a; reads = h ∙ w; told = e ∙ ap out w }
   told-by (badAt p) h e kept g =
       let z : false ≡ true = sym (ap good e ∙ k .no p .0) ∙ g in absurd (true≢false (sym z))
@@ -250,7 +251,8 @@ module _ {A : Type 0} (P : A → Type 0) where
 -- a count is at most what its form allows
 pub few-rules : (xs : List ℕ) (p : ℕ) {c : ℕ} {ys : List ℕ} {q : ℕ} → one ruleCountForm xs p ≡ read c ys q → c ≤ mostRules
 unfolding ruleCountForm
-few-rules xs p e = one-gives (λ n. n ≤ mostRules) ruleCountForm xs p (λ n. only-gives (λ m. m ≤ mostRules) (leb n mostRules) (filled n) (leb-true n mostRules)) e
+few-rules xs p e = one-gives (λ n. n ≤ mostRules) ruleCountForm xs p
+    (λ n. only-gives (λ m. m ≤ mostRules) (leb n mostRules) (filled n) (leb-true n mostRules)) e
 
 pub few-envelopes : (f : Format) (xs : List ℕ) (p : ℕ) {c : ℕ} {ys : List ℕ} {q : ℕ} → one (envelopeCountForm f) xs p ≡ read c ys q → c ≤ f .most
 unfolding envelopeCountForm
@@ -258,7 +260,8 @@ few-envelopes f xs p e =
     one-gives (λ n. n ≤ f .most) (envelopeCountForm f) xs p (λ n. only-gives (λ m. m ≤ f .most) (leb n (f .most)) (filled n) (leb-true n (f .most))) e
 
 -- a header has at most so many actors
-pub few-actors : (known : List Format) (xs : List ℕ) (p : ℕ) {h : script.Header} {ys : List ℕ} {q : ℕ} → one (headerForm known) xs p ≡ read h ys q → h .actors ≤ mostActors
+pub few-actors : (known : List Format) (xs : List ℕ) (p : ℕ) {h : script.Header} {ys : List ℕ} {q : ℕ} → one (headerForm known) xs p ≡ read h ys q
+    → h .actors ≤ mostActors
 unfolding headerForm headerOk every
 few-actors known xs p e =
     one-gives (λ (h : script.Header). h .actors ≤ mostActors) (headerForm known) xs p

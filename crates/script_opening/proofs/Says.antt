@@ -70,7 +70,12 @@ envelopes-both m e = both envelopesRead envelopesSays readingSays m (envelopes-l
 opening-law : (m : Reading Opening) → openingSays (openingRead m) ≡ readingSays m
 unfolding choose
 opening-law (read o xs p) =
-    λ i. said 0 (record { version = o .version; kind = o .kind; tables = tables-in (o .tables) i; envelopes = in-use mostEntries zeroEnvelope (o .envelopes) i } ∷ []) (p ∷ [])
+    λ i. said 0 (record {
+      version = o .version;
+      kind = o .kind;
+      tables = tables-in (o .tables) i;
+      envelopes = in-use mostEntries zeroEnvelope (o .envelopes) i;
+    } ∷ []) (p ∷ [])
 opening-law (badAt p) = refl
 
 pub opening-both : (m : Reading Opening) {r : OpeningRead} → r ≡ openingRead m → Both openingRead openingSays readingSays m r

@@ -13,7 +13,8 @@ use lib.Dec.{leb, ltb, eqb, lit≤}
 use Rattle.lists.specs.Lists.{choose, pad}
 use Rattle.lists.proofs.Places.{laid-room, laid-append}
 use Rattle.layout.specs.Bits.{fieldAt}
-use Rattle.layout.specs.Form.{Form, filled, refuse, field, Reached, reached, stuck, Got, got, bad, follow, then, times, only, bytesFor, wholeOf, padded, recordOf}
+use Rattle.layout.specs.Form.{Form, filled, refuse, field, Reached, reached, stuck, Got, got, bad, follow, then, times, only, bytesFor, wholeOf, padded}
+use Rattle.layout.specs.Form.{recordOf}
 use Rattle.layout.specs.Read.{Reading, read, badAt, placed, one}
 use Rattle.layout.proofs.Laws.{onReached, follow-then, found, record-fits, follow-from, fed, follow-only, follow-not, then-reached, then-found}
 use Rattle.types.specs.Capacities.{mostCommands}
@@ -28,7 +29,8 @@ use Rattle.types.specs.declared.RuleCommand.the-variants as rule
 use Rattle.types.specs.declared.Slot.{Slot}
 use Rattle.types.specs.declared.Rule.{Rule}
 use Rattle.rules.specs.Inner.{zeroSlot, slotsOf}
-use Rattle.rules.specs.Script.{Header, headerOk, headerForm, flag, commandKinds, commandForm, ruleForm, messageKinds, messageForm, envelopeForm, Item, end, item, actionKinds, actionForm, takeAction, sizeOf}
+use Rattle.rules.specs.Script.{Header, headerOk, headerForm, flag, commandKinds, commandForm, ruleForm, messageKinds, messageForm, envelopeForm, Item, end}
+use Rattle.rules.specs.Script.{item, actionKinds, actionForm, takeAction, sizeOf}
 use Rattle.script_records.specs.declared.Ending.{Ending}
 use Rattle.script_records.specs.declared.Ending.the-variants as ending
 use Rattle.script_records.specs.declared.MessagePart.the-variants as messages
@@ -38,11 +40,13 @@ use Rattle.script_records.specs.declared.CommandPart.the-variants as com
 use Rattle.script_records.specs.declared.CommandsPart.{CommandsPart}
 use Rattle.script_records.specs.declared.ActionPart.{ActionPart}
 use Rattle.script_records.specs.declared.ActionPart.the-variants as actions
-use Rattle.script_records.specs.Views.{endingOf, commandsPart, actionRead, actionSize, ruleWith, messagePart, envelopePart, envelopeEnd, commandPart, withEnvelope, actionPart, actionEnd}
+use Rattle.script_records.specs.Views.{endingOf, commandsPart, actionRead, actionSize, ruleWith, messagePart, envelopePart, envelopeEnd, commandPart}
+use Rattle.script_records.specs.Views.{withEnvelope, actionPart, actionEnd}
 
 -- ---- a record at a place: its form reached a value after n bits, and its end is as `endingOf` says
 module _ {A : Type 0} (f : Form A) (xs : List ℕ) (p : ℕ) where
-  whole-at : (b : Bool) (a : A) (n : ℕ) {q : ℕ} → ending.At q ≡ endingOf p b n → placed (choose b (got a (bytesFor n)) bad) xs p ≡ read a (drop (bytesFor n) xs) q
+  whole-at : (b : Bool) (a : A) (n : ℕ) {q : ℕ} → ending.At q ≡ endingOf p b n
+      → placed (choose b (got a (bytesFor n)) bad) xs p ≡ read a (drop (bytesFor n) xs) q
   unfolding placed choose
   whole-at true a n {q} e = let z : q ≡ p + bytesFor n = cc in ap (read a (drop (bytesFor n) xs)) (sym z)
   whole-at false a n {q} e = let z : _≡_ {A = ℕ} 0 1 = cc in absurd (omega arith)
@@ -77,7 +81,8 @@ module _ {A R : Type 0} (img : Reading A → R) (f : Form A) (s : List ℕ) (at 
       → r ≡ img (read a (drop (bytesFor n) (drop at s)) q) → r ≡ img (one f (drop at s) at)
   tells-at h e r = r ∙ sym (ap img (one-at f (drop at s) at (there h) e))
 
-  pub tells-not : {a : A} {n : ℕ} → follow xs f 0 ≡ reached a n → ending.Bad ≡ endingOf at (wholeOf (drop at s) n) n → img (badAt at) ≡ img (one f (drop at s) at)
+  pub tells-not : {a : A} {n : ℕ} → follow xs f 0 ≡ reached a n → ending.Bad ≡ endingOf at (wholeOf (drop at s) n) n
+      → img (badAt at) ≡ img (one f (drop at s) at)
   tells-not h e = sym (ap img (one-not f (drop at s) at (there h) e))
 
   pub tells-stuck : follow xs f 0 ≡ stuck → img (badAt at) ≡ img (one f (drop at s) at)
@@ -189,13 +194,15 @@ module _ (xs : List ℕ) where
       unfolding commandForm commandKinds
       set-at {t} p q r = rw (r, z) (fed xs (commandForm f) at (0 ∷ t ∷ []) (p, (moved 5 q z, tt)))
 
-      pub cancel-at : {t e : ℕ} → 1 ≡ fieldAt xs at (f .command) → t ≡ fieldAt xs b 5 → e ≡ b + 5 → follow xs (commandForm f) at ≡ reached (rule.CancelTimer t) e
+      pub cancel-at : {t e : ℕ} → 1 ≡ fieldAt xs at (f .command) → t ≡ fieldAt xs b 5 → e ≡ b + 5
+          → follow xs (commandForm f) at ≡ reached (rule.CancelTimer t) e
       unfolding commandForm commandKinds
       cancel-at {t} p q r = rw (r, z) (fed xs (commandForm f) at (1 ∷ t ∷ []) (p, (moved 5 q z, tt)))
 
       pub send-at
           : {s d o p e : ℕ} → 2 ≡ fieldAt xs at (f .command) → s ≡ fieldAt xs b 1 → d ≡ fieldAt xs (b + 1) 8 → o ≡ fieldAt xs (b + 9) 1
-          → p ≡ fieldAt xs (b + 10) 32 → e ≡ b + 42 → follow xs (commandForm f) at ≡ reached (rule.Send (flag s) (record { 0 = d }) (flag o) (record { 0 = p })) e
+          → p ≡ fieldAt xs (b + 10) 32 → e ≡ b + 42
+          → follow xs (commandForm f) at ≡ reached (rule.Send (flag s) (record { 0 = d }) (flag o) (record { 0 = p })) e
       unfolding commandForm commandKinds
       send-at {s} {d} {o} {p} {e} hk hs hd ho hp he =
           let g : b + 1 ≡ at + f .command + 1 = omega (arith, z) in
@@ -301,9 +308,11 @@ module _ (xs : List ℕ) where
         pub rule-stuck : follow xs (commandsForm c) b ≡ stuck → follow xs (ruleForm f) 0 ≡ stuck
         rule-stuck h =
             rule-commands
-            ∙ then-stuck xs b (times c (commandForm f)) (λ cs. ruleWith xs (f .event) (slotsOf cs) c) (go (follow xs (times c (commandForm f)) b) refl (sym (follow-then xs (times c (commandForm f)) (λ cs. filled (slotsOf cs)) b) ∙ h))
+            ∙ then-stuck xs b (times c (commandForm f)) (λ cs. ruleWith xs (f .event) (slotsOf cs) c)
+            (go (follow xs (times c (commandForm f)) b) refl (sym (follow-then xs (times c (commandForm f)) (λ cs. filled (slotsOf cs)) b) ∙ h))
           where
-            go : (g : Reached (List RuleCommand)) → follow xs (times c (commandForm f)) b ≡ g → onReached g (λ cs n. reached (slotsOf cs) n) ≡ stuck → follow xs (times c (commandForm f)) b ≡ stuck
+            go : (g : Reached (List RuleCommand)) → follow xs (times c (commandForm f)) b ≡ g → onReached g (λ cs n. reached (slotsOf cs) n) ≡ stuck
+                → follow xs (times c (commandForm f)) b ≡ stuck
             go (reached cs n) e i = let y : _≡_ {A = ℕ} 0 1 = cc in absurd (omega arith)
             go stuck e i = e
 
@@ -341,20 +350,23 @@ module _ (xs : List ℕ) where
       pub deliver-kind : k ≡ 1 → actionPart (follow xs (actionForm f) 0) ≡ withEnvelope true (envelopePart (follow xs (envelopeForm f) 3))
       unfolding actionKinds
       deliver-kind e =
-          ap actionPart (kind-at p within ∙ ap (λ (j : ℕ). follow xs (getD (actionKinds f) j refuse) 3) e ∙ follow-then xs (envelopeForm f) (λ x. filled (item (action.Deliver x))) 3)
+          ap actionPart (kind-at p within ∙ ap (λ (j : ℕ). follow xs (getD (actionKinds f) j refuse) 3) e
+          ∙ follow-then xs (envelopeForm f) (λ x. filled (item (action.Deliver x))) 3)
           ∙ delivers (follow xs (envelopeForm f) 3)
 
       pub drop-kind : k ≡ 2 → actionPart (follow xs (actionForm f) 0) ≡ withEnvelope false (envelopePart (follow xs (envelopeForm f) 3))
       unfolding actionKinds
       drop-kind e =
-          ap actionPart (kind-at p within ∙ ap (λ (j : ℕ). follow xs (getD (actionKinds f) j refuse) 3) e ∙ follow-then xs (envelopeForm f) (λ x. filled (item (action.Drop x))) 3)
+          ap actionPart (kind-at p within ∙ ap (λ (j : ℕ). follow xs (getD (actionKinds f) j refuse) 3) e
+          ∙ follow-then xs (envelopeForm f) (λ x. filled (item (action.Drop x))) 3)
           ∙ drops (follow xs (envelopeForm f) 3)
 
       pub end-kind : k ≡ 0 → follow xs (actionForm f) 0 ≡ reached end 3
       unfolding actionKinds
       end-kind e = kind-at p within ∙ ap (λ (j : ℕ). follow xs (getD (actionKinds f) j refuse) 3) e
 
-      pub timeout-kind : {i t : ℕ} → k ≡ 3 → i ≡ fieldAt xs 3 8 → t ≡ fieldAt xs 11 5 → follow xs (actionForm f) 0 ≡ reached (item (action.Timeout (record { 0 = i }) t)) 16
+      pub timeout-kind : {i t : ℕ} → k ≡ 3 → i ≡ fieldAt xs 3 8 → t ≡ fieldAt xs 11 5
+          → follow xs (actionForm f) 0 ≡ reached (item (action.Timeout (record { 0 = i }) t)) 16
       unfolding actionKinds
       timeout-kind {i} {t} e g h =
           kind-at p within ∙ ap (λ (j : ℕ). follow xs (getD (actionKinds f) j refuse) 3) e ∙ fed xs (getD (actionKinds f) 3 refuse) 3 (i ∷ t ∷ []) (g, (h, tt))

@@ -29,9 +29,12 @@ ghost use Rattle.types.specs.Capacities.{mostCommands};
 ghost use Rattle.layout.specs.Form.{filled, field, follow, then, only, times, wholeOf};
 ghost use Rattle.layout.specs.Read.{one};
 ghost use Rattle.rules.specs.Inner.{zeroSlot, slotsOf};
-ghost use Rattle.rules.specs.Script.{version1, versions, formatOf, Fine, headerOk, headerForm, ruleCountForm, commandForm, ruleForm, envelopeCountForm, messageForm, envelopeForm, actionForm, unread};
+ghost use Rattle.rules.specs.Script.{version1, versions, formatOf, Fine, headerOk, headerForm, ruleCountForm, commandForm, ruleForm, envelopeCountForm};
+ghost use Rattle.rules.specs.Script.{messageForm, envelopeForm, actionForm, unread};
 ghost use Rattle.link_inner.specs.Views.{zeroRule};
-ghost use Rattle.script_records.specs.Views.{endingOf, headerRead, countRead, ruleRead, envelopeRead, actionRead, actionSize, messagePart, messageEnd, envelopePart, envelopeEnd, commandPart, commandEnd, commandsPart, ruleWith, actionPart, actionEnd, withEnvelope};
+ghost use Rattle.script_records.specs.Views.{endingOf, headerRead, countRead, ruleRead, envelopeRead, actionRead, actionSize, messagePart, messageEnd};
+ghost use Rattle.script_records.specs.Views.{envelopePart, envelopeEnd, commandPart, commandEnd, commandsPart, ruleWith, actionPart, actionEnd};
+ghost use Rattle.script_records.specs.Views.{withEnvelope};
 ghost use Rattle.script_records.specs.Says.{readingSays, headerSays, countSays, ruleSays, envelopeSays, actionSays};
 
 pub struct Header {
@@ -291,7 +294,7 @@ fn no_commands() -> CommandsPart
 }
 
 fn commands_part(s: &[u8], at: usize, count: usize, f: Format) -> CommandsPart
-    requires { ⌜ (at < 128) × (count ≤ mostCommands) × Fine f ⌝ }
+    requires { ⌜ (at < 100) × (count ≤ mostCommands) × Fine f ⌝ }
     ensures { λ r. ⌜ r ≡ commandsPart (follow (now (s .entry)) (then (times count (commandForm f)) (λ cs. filled (slotsOf cs))) at) ⌝ }
     ensures short { λ r. ⌜ r .end ≤ at + 200 ⌝ }
 {
@@ -410,7 +413,7 @@ fn message_part(s: &[u8], at: usize, f: Format) -> MessagePart
 }
 
 fn envelope_part(s: &[u8], at: usize, f: Format) -> EnvelopePart
-    requires { ⌜ (at < 128) × Fine f ⌝ }
+    requires { ⌜ (at < 100) × Fine f ⌝ }
     ensures { λ r. ⌜ r ≡ envelopePart (follow (now (s .entry)) (envelopeForm f) at) ⌝ }
     ensures short { λ r. ⌜ envelopeEnd r ≤ at + 120 ⌝ }
 {

@@ -62,7 +62,8 @@ send-eight c e m k h = go (fits c (sending e m)) h
 
 -- What it gives: a part that its structs hold, with the same link; or 8.
 pub data Ran (rs : List Rule) (a : Struct) : Outcome Part → Type 0 where
-  ran : (p : Part) → NetReady (networkOf (p .net)) → partView rs (networkOf (p .net)) (actorAs (p .actor)) ≡ p → ActorLaid (actorAs (p .actor)) → actorAs (p .actor) .link ≡ a .link → Ran rs a (done p)
+  ran : (p : Part) → NetReady (networkOf (p .net)) → partView rs (networkOf (p .net)) (actorAs (p .actor)) ≡ p → ActorLaid (actorAs (p .actor))
+      → actorAs (p .actor) .link ≡ a .link → Ran rs a (done p)
   full : Ran rs a (refused 8)
 
 module _ (rs : List Rule) (n : Network) (a : Struct) (ready : NetReady n) (laid : ActorLaid a) where
@@ -87,11 +88,13 @@ module _ (rs : List Rule) (n : Network) (a : Struct) (ready : NetReady n) (laid 
   unfolding actorIn
   with-actor x e l h =
       ran (record { net = netView n; actor = x }) (rw same-net ready)
-      (let v = ap netView same-net in let w = ap (λ (r : List Rule). actorView r (actorAs x)) (sym e) ∙ actor-back x h in λ i. record { net = v i; actor = w i })
+      (let v = ap netView same-net in let w = ap (λ (r : List Rule). actorView r (actorAs x)) (sym e) ∙ actor-back x h in
+      λ i. record { net = v i; actor = w i })
       (image-laid x h)
       (ap linkAs l ∙ same-link)
 
-  sent : (m : Outcome Net) → ((x : Net) → m ≡ done x → NetReady (networkOf x)) → ((k : ℕ) → m ≡ refused k → k ≡ 8) → Ran rs a (bind m (λ x. done (netIn x here)))
+  sent : (m : Outcome Net) → ((x : Net) → m ≡ done x → NetReady (networkOf x)) → ((k : ℕ) → m ≡ refused k → k ≡ 8)
+      → Ran rs a (bind m (λ x. done (netIn x here)))
   unfolding bind netIn
   sent (done x) f g =
       let r = f x refl in
@@ -112,7 +115,8 @@ module _ (rs : List Rule) (n : Network) (a : Struct) (ready : NetReady n) (laid 
   command-ran i Save = with-actor _ refl refl (listed-timers (a .timers .0))
 
   -- ---- what each command leaves, in structs
-  changed : (x : Actor) (b : Struct) → actorAs x ≡ b → _≡_ {A = Touched} (record { answer = Done; network = n; actor = b }) (touchedOf n a (done (actorIn x here)))
+  changed : (x : Actor) (b : Struct) → actorAs x ≡ b
+      → _≡_ {A = Touched} (record { answer = Done; network = n; actor = b }) (touchedOf n a (done (actorIn x here)))
   unfolding actorIn answerOf
   changed x b e = sym (λ i. record { answer = Done; network = same-net i; actor = e i })
 
@@ -124,19 +128,31 @@ module _ (rs : List Rule) (n : Network) (a : Struct) (ready : NetReady n) (laid 
   timed ts = λ i. record { crashed = a .crashed; timers = timersOf ts; link = same-link i; stored = same-stored i }
 
   pub set-touched : (i : Id) (t : ℕ)
-      → _≡_ {A = Touched} (record { answer = Done; network = n; actor = record { crashed = a .crashed; timers = timersOf (setTimer t (listed (a .timers .0))); link = a .link; stored = a .stored } })
+      → _≡_ {A = Touched} (record {
+        answer = Done;
+        network = n;
+        actor = record { crashed = a .crashed; timers = timersOf (setTimer t (listed (a .timers .0))); link = a .link; stored = a .stored };
+      })
       (touchedOf n a (runPart (base .room) i (commandView (durableView (a .link .durable)) (Set t) ∷ []) here))
   unfolding runPart commandView
   set-touched i t = changed _ _ (timed (setTimer t (listed (a .timers .0))))
 
   pub cancel-touched : (i : Id) (t : ℕ)
-      → _≡_ {A = Touched} (record { answer = Done; network = n; actor = record { crashed = a .crashed; timers = timersOf (cancelTimer t (listed (a .timers .0))); link = a .link; stored = a .stored } })
+      → _≡_ {A = Touched} (record {
+        answer = Done;
+        network = n;
+        actor = record { crashed = a .crashed; timers = timersOf (cancelTimer t (listed (a .timers .0))); link = a .link; stored = a .stored };
+      })
       (touchedOf n a (runPart (base .room) i (commandView (durableView (a .link .durable)) (Cancel t) ∷ []) here))
   unfolding runPart commandView
   cancel-touched i t = changed _ _ (timed (cancelTimer t (listed (a .timers .0))))
 
   pub save-touched : (i : Id)
-      → _≡_ {A = Touched} (record { answer = Done; network = n; actor = record { crashed = a .crashed; timers = a .timers; link = a .link; stored = record { some = true; durable = a .link .durable } } })
+      → _≡_ {A = Touched} (record {
+        answer = Done;
+        network = n;
+        actor = record { crashed = a .crashed; timers = a .timers; link = a .link; stored = record { some = true; durable = a .link .durable } };
+      })
       (touchedOf n a (runPart (base .room) i (commandView (durableView (a .link .durable)) Save ∷ []) here))
   unfolding runPart commandView withStorage
   save-touched i = changed _ _ (λ j. record {
@@ -147,7 +163,8 @@ module _ (rs : List Rule) (n : Network) (a : Struct) (ready : NetReady n) (laid 
   })
 
   -- a send alone
-  pub sent-touched : (m : Outcome Net) → touchedOf n a (bind m (λ x. done (netIn x here))) ≡ record { answer = sentOf n m .answer; network = sentOf n m .network; actor = a }
+  pub sent-touched : (m : Outcome Net)
+      → touchedOf n a (bind m (λ x. done (netIn x here))) ≡ record { answer = sentOf n m .answer; network = sentOf n m .network; actor = a }
   unfolding bind netIn
   sent-touched (done x) = λ i. record { answer = answerOf 0; network = networkOf x; actor = same-actor i }
   sent-touched (refused k) = refl
@@ -159,7 +176,8 @@ module _ (rs : List Rule) (n : Network) (a : Struct) (ready : NetReady n) (laid 
   send-touched i r m s e = (λ j. record { answer = e j .answer; network = e j .network; actor = a }) ∙ sym (sent-touched _)
 
 -- One command, then the rest.
-pub run-cons : (c : Room) (i : Id) (x : rules.Command) (cs : List rules.Command) (p : Part) → runPart c i (x ∷ cs) p ≡ bind (runPart c i (x ∷ []) p) (runPart c i cs)
+pub run-cons : (c : Room) (i : Id) (x : rules.Command) (cs : List rules.Command) (p : Part)
+    → runPart c i (x ∷ cs) p ≡ bind (runPart c i (x ∷ []) p) (runPart c i cs)
 unfolding runPart bind
 run-cons c i (rules.Set t) cs p = refl
 run-cons c i (rules.Cancel t) cs p = refl
@@ -181,7 +199,8 @@ pub record Turn (i : Id) (n : Network) (a : Struct) (list : List CommandSlot) (u
   pub laid : ActorLaid act
   pub link : act .link ≡ a .link
   pub same : (rs : List Rule)
-      → runPart (base .room) i (restOf (durableView (a .link .durable)) list used 0) (partView rs n a) ≡ runPart (base .room) i (restOf (durableView (a .link .durable)) list used j) (partView rs net act)
+      → runPart (base .room) i (restOf (durableView (a .link .durable)) list used 0) (partView rs n a)
+      ≡ runPart (base .room) i (restOf (durableView (a .link .durable)) list used j) (partView rs net act)
 
 pub turn-start : (i : Id) (n : Network) (a : Struct) (list : List CommandSlot) (used : ℕ) → NetReady n → ActorLaid a → Turn i n a list used 0 n a
 turn-start i n a list used r l = record { ready = r; laid = l; link = refl; same = λ rs. refl }
@@ -194,9 +213,11 @@ record Held (rs : List Rule) (a : Struct) (t : Touched) (m : Outcome Part) : Typ
   link : t .actor .link ≡ a .link
   is : m ≡ done (partView rs (t .network) (t .actor))
 
-held-of : (rs : List Rule) (n : Network) (a : Struct) (m : Outcome Part) (t : Touched) → Ran rs a m → t ≡ touchedOf n a m → isDone (t .answer) ≡ true → Held rs a t m
+held-of : (rs : List Rule) (n : Network) (a : Struct) (m : Outcome Part) (t : Touched) → Ran rs a m → t ≡ touchedOf n a m → isDone (t .answer) ≡ true
+    → Held rs a t m
 unfolding answerOf
-held-of rs n a (done p) t (ran q r v l k) e b = subst (λ (x : Touched). Held rs a x (done p)) (sym e) (record { ready = r; laid = l; link = k; is = ap done (sym v) })
+held-of rs n a (done p) t (ran q r v l k) e b =
+    subst (λ (x : Touched). Held rs a x (done p)) (sym e) (record { ready = r; laid = l; link = k; is = ap done (sym v) })
 held-of rs n a (refused k) t full e b = absurd (false≢true (sym (ap (λ (x : Touched). isDone (x .answer)) e) ∙ b))
 
 not-ran : (rs : List Rule) (n : Network) (a : Struct) (m : Outcome Part) → Ran rs a m → isDone (touchedOf n a m .answer) ≡ false → m ≡ refused 8
@@ -204,7 +225,8 @@ unfolding answerOf
 not-ran rs n a (done p) r e = absurd (true≢false e)
 not-ran rs n a (refused k) full e = refl
 
-module _ (i : Id) (n : Network) (a : Struct) (list : List CommandSlot) (used j : ℕ) (net : Network) (act : Struct) (g : Turn i n a list used j net act) (h : j < used) (k : used ≤ length list) (z : CommandSlot) where
+module _ (i : Id) (n : Network) (a : Struct) (list : List CommandSlot) (used j : ℕ) (net : Network) (act : Struct) (g : Turn i n a list used j net act)
+    (h : j < used) (k : used ≤ length list) (z : CommandSlot) where
   abbrev d : rules.Durable
   d = durableView (a .link .durable)
 
@@ -215,25 +237,34 @@ module _ (i : Id) (n : Network) (a : Struct) (list : List CommandSlot) (used j :
   same-d = ap (λ (l : Link). durableView (l .durable)) (g .link)
 
   next : (rs : List Rule) → runPart (base .room) i (restOf d list used 0) (partView rs n a)
-      ≡ bind (runPart (base .room) i (commandView (durableView (act .link .durable)) c ∷ []) (partView rs net act)) (runPart (base .room) i (restOf d list used (suc j)))
+      ≡ bind (runPart (base .room) i (commandView (durableView (act .link .durable)) c ∷ []) (partView rs net act))
+      (runPart (base .room) i (restOf d list used (suc j)))
   next rs =
       g .same rs
-      ∙ ap (λ (l : List CommandSlot). runPart (base .room) i (map (λ (s : CommandSlot). commandView d (s .command)) l) (partView rs net act)) (slice-cons j used list z h k)
+      ∙ ap (λ (l : List CommandSlot). runPart (base .room) i (map (λ (s : CommandSlot). commandView d (s .command)) l) (partView rs net act))
+      (slice-cons j used list z h k)
       ∙ run-cons (base .room) i (commandView d c) (restOf d list used (suc j)) (partView rs net act)
-      ∙ ap (λ (y : rules.Durable). bind (runPart (base .room) i (commandView y c ∷ []) (partView rs net act)) (runPart (base .room) i (restOf d list used (suc j)))) (sym same-d)
+      ∙ ap (λ (y : rules.Durable). bind (runPart (base .room) i (commandView y c ∷ []) (partView rs net act))
+      (runPart (base .room) i (restOf d list used (suc j)))) (sym same-d)
 
-  module _ (t : Touched) (told : (rs : List Rule) → t ≡ touchedOf net act (runPart (base .room) i (commandView (durableView (act .link .durable)) c ∷ []) (partView rs net act))) where
-    pub turn-stop : isDone (t .answer) ≡ false → (rs : List Rule) → _≡_ {A = Touched} (record { answer = t .answer; network = n; actor = a }) (touchedOf n a (runPart (base .room) i (restOf d list used 0) (partView rs n a)))
+  module _ (t : Touched)
+      (told : (rs : List Rule)
+      → t ≡ touchedOf net act (runPart (base .room) i (commandView (durableView (act .link .durable)) c ∷ []) (partView rs net act))) where
+    pub turn-stop : isDone (t .answer) ≡ false → (rs : List Rule)
+        → _≡_ {A = Touched} (record { answer = t .answer; network = n; actor = a })
+        (touchedOf n a (runPart (base .room) i (restOf d list used 0) (partView rs n a)))
     unfolding bind
     turn-stop e rs =
         let m = runPart (base .room) i (commandView (durableView (act .link .durable)) c ∷ []) (partView rs net act) in
-        let q : m ≡ refused 8 = not-ran rs net act m (command-ran rs net act (g .ready) (g .laid) i c) (sym (ap (λ (x : Touched). isDone (x .answer)) (told rs)) ∙ e) in
+        let q : m ≡ refused 8 =
+        not-ran rs net act m (command-ran rs net act (g .ready) (g .laid) i c) (sym (ap (λ (x : Touched). isDone (x .answer)) (told rs)) ∙ e) in
         let w : t .answer ≡ answerOf 8 = ap (λ (x : Touched). x .answer) (told rs ∙ ap (touchedOf net act) q) in
         (λ y. record { answer = w y; network = n; actor = a })
         ∙ sym (ap (touchedOf n a) (next rs ∙ ap (λ (o : Outcome Part). bind o (runPart (base .room) i (restOf d list used (suc j)))) q))
 
     -- what the command gave, seen in the structs that it left
-    gave : isDone (t .answer) ≡ true → (rs : List Rule) → Held rs act t (runPart (base .room) i (commandView (durableView (act .link .durable)) c ∷ []) (partView rs net act))
+    gave : isDone (t .answer) ≡ true → (rs : List Rule)
+        → Held rs act t (runPart (base .room) i (commandView (durableView (act .link .durable)) c ∷ []) (partView rs net act))
     gave e rs =
         let m = runPart (base .room) i (commandView (durableView (act .link .durable)) c ∷ []) (partView rs net act) in
         held-of rs net act m t (command-ran rs net act (g .ready) (g .laid) i c) (told rs) e
@@ -251,16 +282,20 @@ module _ (i : Id) (n : Network) (a : Struct) (list : List CommandSlot) (used j :
 
 -- After the last.
 pub turn-end : (i : Id) (n : Network) (a : Struct) (list : List CommandSlot) (used : ℕ) (net : Network) (act : Struct) → Turn i n a list used used net act
-    → (rs : List Rule) → _≡_ {A = Touched} (record { answer = Done; network = net; actor = act }) (touchedOf n a (runPart (base .room) i (restOf (durableView (a .link .durable)) list used 0) (partView rs n a)))
+    → (rs : List Rule) → _≡_ {A = Touched} (record { answer = Done; network = net; actor = act })
+    (touchedOf n a (runPart (base .room) i (restOf (durableView (a .link .durable)) list used 0) (partView rs n a)))
 unfolding runPart answerOf
 turn-end i n a list used net act g rs =
     sym (ap (touchedOf n a) (g .same rs
-    ∙ ap (λ (l : List CommandSlot). runPart (base .room) i (map (λ (s : CommandSlot). commandView (durableView (a .link .durable)) (s .command)) l) (partView rs net act)) (slice-empty used list))
+    ∙ ap (λ (l : List CommandSlot). runPart (base .room) i (map (λ (s : CommandSlot). commandView (durableView (a .link .durable)) (s .command)) l)
+    (partView rs net act)) (slice-empty used list))
     ∙ (λ y. record { answer = Done; network = same-net rs net act (g .ready) (g .laid) y; actor = same-actor rs net act (g .ready) (g .laid) y }))
 
 -- The commands of a struct, from the first on.
-pub all-of : (d : rules.Durable) (cs : Commands) (u : ℕ) → take u (cs .list) ≡ take (cs .used) (cs .list) → map (commandView d) (commandsIn cs) ≡ restOf d (cs .list) u 0
-all-of d cs u e = map-map (commandView d) (λ (s : CommandSlot). s .command) (take (cs .used) (cs .list)) ∙ ap (map (λ (s : CommandSlot). commandView d (s .command))) (sym e)
+pub all-of : (d : rules.Durable) (cs : Commands) (u : ℕ) → take u (cs .list) ≡ take (cs .used) (cs .list)
+    → map (commandView d) (commandsIn cs) ≡ restOf d (cs .list) u 0
+all-of d cs u e = map-map (commandView d) (λ (s : CommandSlot). s .command) (take (cs .used) (cs .list))
+    ∙ ap (map (λ (s : CommandSlot). commandView d (s .command))) (sym e)
 
 -- ---- what was refused further on
 abbrev pub refusal : ℕ → Bool
@@ -285,5 +320,6 @@ pub finished : (rs : List Rule) (i : Id) (n : Network) (a : Struct) (d : Did) (b
     ≡ touchedOf n a (finishPart base i (partView rs n a) (didView d))
 unfolding finishPart actorIn withLink answerOf
 finished rs i n a d b f =
-    ap (λ (x : Struct). backTo n a (touchedOf n x (runPart (base .room) i (map (commandView (durableView (x .link .durable))) (commandsIn (d .commands))) (partView rs n x)))) f
+    ap (λ (x : Struct). backTo n a
+    (touchedOf n x (runPart (base .room) i (map (commandView (durableView (x .link .durable))) (commandsIn (d .commands))) (partView rs n x)))) f
     ∙ back-touched n n a (linkIn a (d .link)) _ (on-run refusal refl refl refl (base .room) i _ _)

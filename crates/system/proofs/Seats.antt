@@ -30,7 +30,8 @@ module _ {A B C : Type 0} (f : A → B → C) where
   zip-length (x ∷ xs) [] e = refl
   zip-length (x ∷ xs) (y ∷ ys) e = ap suc (zip-length xs ys (omega arith))
 
-  pub zip-get : (xs : List A) (ys : List B) (i : ℕ) (a : A) (b : B) (c : C) → i < length xs → i < length ys → getD (zipWith f xs ys) i c ≡ f (getD xs i a) (getD ys i b)
+  pub zip-get : (xs : List A) (ys : List B) (i : ℕ) (a : A) (b : B) (c : C) → i < length xs → i < length ys
+      → getD (zipWith f xs ys) i c ≡ f (getD xs i a) (getD ys i b)
   unfolding zipWith
   zip-get [] ys i a b c h k = absurd (omega arith)
   zip-get (x ∷ xs) [] i a b c h k = absurd (omega arith)
@@ -43,18 +44,21 @@ unfolding zipWith
 actors-again [] [] e f = refl
 actors-again [] (a ∷ bs) e f = absurd (omega arith)
 actors-again (t ∷ ts) [] e f = refl
-actors-again (t ∷ ts) (a ∷ bs) e f = ap₂ (λ (x : Actor) (l : List Actor). x ∷ l) (f a (List·Memᴰ·head refl)) (actors-again ts bs (omega arith) (λ b m. f b (List·Memᴰ·tail m)))
+actors-again (t ∷ ts) (a ∷ bs) e f =
+    ap₂ (λ (x : Actor) (l : List Actor). x ∷ l) (f a (List·Memᴰ·head refl)) (actors-again ts bs (omega arith) (λ b m. f b (List·Memᴰ·tail m)))
 
 pub tables-again : (ts : List Table) (bs : List Actor) → length ts ≡ length bs → ((t : Table) → t ∈ ts → TableLaid t) → ts ≡ map tableFor (zipWith seated ts bs)
 unfolding zipWith
 tables-again [] [] e f = refl
 tables-again [] (a ∷ bs) e f = refl
 tables-again (t ∷ ts) [] e f = absurd (omega arith)
-tables-again (t ∷ ts) (a ∷ bs) e f = ap₂ (λ (x : Table) (l : List Table). x ∷ l) (f t (List·Memᴰ·head refl)) (tables-again ts bs (omega arith) (λ b m. f b (List·Memᴰ·tail m)))
+tables-again (t ∷ ts) (a ∷ bs) e f =
+    ap₂ (λ (x : Table) (l : List Table). x ∷ l) (f t (List·Memᴰ·head refl)) (tables-again ts bs (omega arith) (λ b m. f b (List·Memᴰ·tail m)))
 
 -- ---- the tests of the two arrays, and of the actors that are seen
 module _ (k : ℕ) where
-  pub seats-formed : (ts : List Table) (bs : List Actor) → all tableOk ts ≡ true → all (actorFine k) bs ≡ true → all (actorOk (base .limits) k) (zipWith seated ts bs) ≡ true
+  pub seats-formed : (ts : List Table) (bs : List Actor) → all tableOk ts ≡ true → all (actorFine k) bs ≡ true
+      → all (actorOk (base .limits) k) (zipWith seated ts bs) ≡ true
   unfolding zipWith all
   seats-formed [] bs e f = refl
   seats-formed (t ∷ ts) [] e f = refl
@@ -62,7 +66,8 @@ module _ (k : ℕ) where
       let p = and-both (tableOk t) _ e in let q = and-both (actorFine k a) _ f in
       and-make _ _ (actor-formed (rulesOf t) k a (table-parts t (p .0) .1) (q .0)) (seats-formed ts bs (p .1) (q .1))
 
-  pub seats-fine : (ts : List Table) (bs : List Actor) → length ts ≡ length bs → all tableLaid ts ≡ true → all actorLaid bs ≡ true → all (actorOk (base .limits) k) (zipWith seated ts bs) ≡ true
+  pub seats-fine : (ts : List Table) (bs : List Actor) → length ts ≡ length bs → all tableLaid ts ≡ true → all actorLaid bs ≡ true
+      → all (actorOk (base .limits) k) (zipWith seated ts bs) ≡ true
       → (all tableOk ts ≡ true) × (all (actorFine k) bs ≡ true)
   unfolding zipWith all
   seats-fine [] [] n e f g = (refl, refl)
@@ -79,4 +84,5 @@ module _ (k : ℕ) where
   seen-again [] e = refl
   seen-again (a ∷ l) e =
       let p = and-both (actorOk (base .limits) k a) _ e in
-      ap₂ (λ (x : rules.Actor) (m : List rules.Actor). x ∷ m) (ap (λ (rs : List Rule). actorView rs (actorAs a)) (rules-back (a .rules)) ∙ actor-back a (timers-of k a (p .0))) (seen-again l (p .1))
+      ap₂ (λ (x : rules.Actor) (m : List rules.Actor). x ∷ m)
+      (ap (λ (rs : List Rule). actorView rs (actorAs a)) (rules-back (a .rules)) ∙ actor-back a (timers-of k a (p .0))) (seen-again l (p .1))

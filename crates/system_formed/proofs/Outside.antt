@@ -11,7 +11,12 @@ abbrev no-durable : Durable
 no-durable = record { next = record { 0 = 0 }; pending = record { records = []; used = 0 }; taken = record { last = []; used = 0 }; inner = Nothing }
 
 abbrev pub no-actor : Actor
-no-actor = record { crashed = false; timers = record { 0 = 0 }; link = record { durable = no-durable; state = 0 }; stored = record { some = false; durable = no-durable } }
+no-actor = record {
+  crashed = false;
+  timers = record { 0 = 0 };
+  link = record { durable = no-durable; state = 0 };
+  stored = record { some = false; durable = no-durable };
+}
 
 abbrev pub no-table : Table
 no-table = record { rules = []; used = 0 }

@@ -66,7 +66,8 @@ pub record Filling (n : Network) (list : List Envelope) (used i : ℕ) (net : Ne
 pub fill-begins : (n : Network) (list : List Envelope) (used : ℕ) → NetReady n → Filling n list used 0 n
 fill-begins n list used r = record { ready = r; same = refl }
 
-module _ (n : Network) (list : List Envelope) (used i : ℕ) (net : Network) (g : Filling n list used i net) (h : i < used) (k : used ≤ length list) (z : Envelope) where
+module _ (n : Network) (list : List Envelope) (used i : ℕ) (net : Network) (g : Filling n list used i net) (h : i < used) (k : used ≤ length list)
+    (z : Envelope) where
   abbrev one : Outcome Net
   one = send (base .room) (getD list i z) (netView net)
 
@@ -78,7 +79,8 @@ module _ (n : Network) (list : List Envelope) (used i : ℕ) (net : Network) (g 
     answered : isDone (s .answer) ≡ isDone (sentOf net one .answer)
     answered = ap (λ (x : Sent). isDone (x .answer)) told
 
-    pub fill-stops : isDone (s .answer) ≡ false → _≡_ {A = Sent} (record { answer = s .answer; network = n }) (sentOf n (sendAll (base .room) (take used list) (netView n)))
+    pub fill-stops : isDone (s .answer) ≡ false
+        → _≡_ {A = Sent} (record { answer = s .answer; network = n }) (sentOf n (sendAll (base .room) (take used list) (netView n)))
     unfolding bind
     fill-stops e =
         let q = refused-of one (sym (ap isDone (sent-answer net one)) ∙ sym answered ∙ e) in
@@ -95,7 +97,8 @@ module _ (n : Network) (list : List Envelope) (used i : ℕ) (net : Network) (g 
         let v : netView (s .network) ≡ q .0 = ap netView w ∙ viewed (q .0) (subst (λ (x : Network). NetReady x) w r .laid .fit) in
         record {
           ready = r;
-          same = next ∙ ap (λ (o : Outcome Net). bind o (sendAll (base .room) (slice (suc i) used list))) (q .1) ∙ ap (sendAll (base .room) (slice (suc i) used list)) (sym v);
+          same = next ∙ ap (λ (o : Outcome Net). bind o (sendAll (base .room) (slice (suc i) used list))) (q .1)
+              ∙ ap (sendAll (base .room) (slice (suc i) used list)) (sym v);
         }
 
 pub fill-ends : (n : Network) (list : List Envelope) (used : ℕ) (net : Network) → Filling n list used used net

@@ -27,4 +27,7 @@ putTouched s i x = choose (isDone (x .answer))
 
 -- The same, whatever the answer.
 abbrev pub writtenBack : System → ℕ → Touched → Answered
-writtenBack s i x = record { answer = x .answer; system = record { count = s .count; network = x .network; actors = set (s .actors) i (x .actor); tables = s .tables } }
+writtenBack s i x = record {
+  answer = x .answer;
+  system = record { count = s .count; network = x .network; actors = set (s .actors) i (x .actor); tables = s .tables };
+}

@@ -16,7 +16,7 @@ use Rattle.rules.specs.Outcome.{base}
 use Rattle.rules.specs.Script.{versions}
 use Rattle.rules.specs.Program.{replay}
 use Rattle.test_list_check.specs.declared.Tally.{Tally}
-use Rattle.test_list_check.specs.List.{partSize, second, pairSize, equal, agrees, right, counted, walk}
+use Rattle.test_list_check.specs.List.{large, partSize, second, pairSize, equal, agrees, right, counted, walk}
 
 -- ---- sizes
 module _ (l : List ℕ) where
@@ -37,7 +37,8 @@ pub part-is : (l : List ℕ) → (partSize l ≡ 0) ⊎ ((4 ≤ partSize l) × (
 unfolding partSize choose
 part-is l = go (leb (4 + fieldAt l 0 32) (length l)) refl
   where
-    go : (b : Bool) → leb (4 + fieldAt l 0 32) (length l) ≡ b → (choose b (4 + fieldAt l 0 32) 0 ≡ 0) ⊎ ((4 ≤ choose b (4 + fieldAt l 0 32) 0) × (choose b (4 + fieldAt l 0 32) 0 ≤ length l))
+    go : (b : Bool) → leb (4 + fieldAt l 0 32) (length l) ≡ b
+        → (choose b (4 + fieldAt l 0 32) 0 ≡ 0) ⊎ ((4 ≤ choose b (4 + fieldAt l 0 32) 0) × (choose b (4 + fieldAt l 0 32) 0 ≤ length l))
     go true e = inr (omega arith, leb-true _ _ e)
     go false e = inl refl
 
@@ -129,25 +130,26 @@ unfolding choose
 took w out left r e h k =
     ap (λ (x : List ℕ). take r x) (k ∙ ap (λ (b : Bool). choose b (w ++ drop r out) out) (le-leb r (length out) h)) ∙ take-at w (drop r out) r (sym e)
 
-pub taken-size : (w out left : List ℕ) {r : ℕ} → 65536 ≡ length out → r ≡ length w → r ≤ 65536 → left ≡ choose (leb r (length out)) (w ++ drop r out) out → r ≡ length (take r left)
+pub taken-size : (w out left : List ℕ) {r : ℕ} → large ≡ length out → r ≡ length w → r ≤ large → left ≡ choose (leb r (length out)) (w ++ drop r out) out
+    → r ≡ length (take r left)
 taken-size w out left {r} n e h k = e ∙ sym (ap length (took w out left r e (omega arith) k))
 
 module _ (script stored : List ℕ) where
-  pub too-long : {r : ℕ} → r ≡ length (replay base versions script) → 65536 < r → false ≡ agrees script stored
+  pub too-long : {r : ℕ} → r ≡ length (replay base versions script) → large < r → false ≡ agrees script stored
   unfolding agrees
   too-long {r} e h =
-      let k : 65536 < length (replay base versions script) = omega arith in
-      sym (ap (λ (b : Bool). b && equal (replay base versions script) stored) (lt-leb (length (replay base versions script)) 65536 k))
+      let k : large < length (replay base versions script) = omega arith in
+      sym (ap (λ (b : Bool). b && equal (replay base versions script) stored) (lt-leb (length (replay base versions script)) large k))
 
-  pub compared : {r : ℕ} {b : Bool} (out left : List ℕ) → 65536 ≡ length out → r ≡ length (replay base versions script) → r ≤ 65536
+  pub compared : {r : ℕ} {b : Bool} (out left : List ℕ) → large ≡ length out → r ≡ length (replay base versions script) → r ≤ large
       → left ≡ choose (leb r (length out)) (replay base versions script ++ drop r out) out
       → (b ≡ true → take r left ≡ stored) → (take r left ≡ stored → b ≡ true) → b ≡ agrees script stored
   unfolding agrees
   compared {r} {b} out left n e h k f g =
-      let q : length (replay base versions script) ≤ 65536 = omega arith in
+      let q : length (replay base versions script) ≤ large = omega arith in
       let w = took (replay base versions script) out left r e (omega arith) k in
       same-equal b (replay base versions script) stored (λ t. sym w ∙ f t) (λ t. g (w ∙ t))
-      ∙ sym (ap (λ (c : Bool). c && equal (replay base versions script) stored) (le-leb (length (replay base versions script)) 65536 q))
+      ∙ sym (ap (λ (c : Bool). c && equal (replay base versions script) stored) (le-leb (length (replay base versions script)) large q))
 
 -- ---- counting
 module _ (t : Tally) where

@@ -12,6 +12,10 @@ use Rattle.rules.specs.Script.{versions}
 use Rattle.rules.specs.Program.{replay}
 use Rattle.test_list_check.specs.declared.Tally.{Tally}
 
+-- The bytes of the buffer that the kit lends.
+abbrev pub large : ℕ
+large = 65536
+
 -- ---- parts and pairs
 -- The bytes of the part at the front, with the four of its length; 0 if it is cut.
 unfoldable pub partSize : List ℕ → ℕ
@@ -38,7 +42,7 @@ equal (x ∷ l) (y ∷ m) = eqb x y && equal l m
 
 -- An output that is too long for the buffer counts as another one.
 unfoldable pub agrees : List ℕ → List ℕ → Bool
-agrees script stored = leb (length (replay base versions script)) 65536 && equal (replay base versions script) stored
+agrees script stored = leb (length (replay base versions script)) large && equal (replay base versions script) stored
 
 unfoldable pub right : List ℕ → Bool
 right l = agrees (partOf l) (partOf (second l))

@@ -9,6 +9,9 @@ ghost use Prim.Native.Nat.{_-_, _<_, _≤_};
 ghost use lib.ListN.{length, take, drop};
 ghost use Rattle.test_list_check.specs.List.{partSize, pairSize, agrees, right, counted, tallied};
 
+// The bytes of the buffer that the kit lends.
+const LARGE: usize = 65536;
+
 // The first that differs is counted from 1, and is 0 where none does.
 pub struct Tally {
     pub scripts: usize,
@@ -53,7 +56,7 @@ fn agree(script: &[u8], stored: &[u8]) -> bool
 {
     let mut out = io::large_buffer();
     let size = replay(script, &mut out);
-    if size > 65536 {
+    if size > LARGE {
         return false;
     }
     same(&out[..size], stored)

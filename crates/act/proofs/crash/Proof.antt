@@ -25,7 +25,8 @@ returns-2 : tie.Need-returns-2
 unfolding actPart
 returns-2 c =
     let s = c .before .before .before in
-    crashed (s .args .n) (s .args .a) (rulesOf (s .args .t)) (s .pre .net) (s .pre .actor) _ (c .crash .ensures (rulesOf (s .args .t)) (s .args .n)) ∙ goes _ _ _ _ _ (sym (c .before .before .known .ensures) ∙ not-false _ (c .before .if1 .left))
+    crashed (s .args .n) (s .args .a) (rulesOf (s .args .t)) (s .pre .net) (s .pre .actor) _ (c .crash .ensures (rulesOf (s .args .t)) (s .args .n))
+    ∙ goes _ _ _ _ _ (sym (c .before .before .known .ensures) ∙ not-false _ (c .before .if1 .left))
 
 pub crash-spec : {M : Type 1} → statement M
 crash-spec = tie.close (tie.spec known-requires refused-requires returns crash-requires returns-2)

@@ -53,10 +53,12 @@ unless x e = ap (λ (b : Bool). choose b Nothing (Because x)) e
 order : (c : tie.After-first-refusal2)
     → let s = c .before .before .before .before .before .before .before .before .before .before .before in
     let x = c .before .before .before .before .before .before .before .before .on-deliver .result .answer in
-    c .first-refusal2 .result ≡ barred (ltb (s .args .e .src .0) (s .args .count)) (ltb (s .args .e .dst .0) (s .args .count) && not (s .args .a .crashed)) (isDone x) x
+    c .first-refusal2 .result
+    ≡ barred (ltb (s .args .e .src .0) (s .args .count)) (ltb (s .args .e .dst .0) (s .args .count) && not (s .args .a .crashed)) (isDone x) x
 order c =
     let x = c .before .before .before .before .before .before .before .before .on-deliver .result .answer in
-    let two = c .before .before .before .before .before .before .refused-unless .ensures ∙ unless OutOfRange (c .before .before .before .before .before .before .before .known .ensures) in
+    let two = c .before .before .before .before .before .before .refused-unless .ensures
+    ∙ unless OutOfRange (c .before .before .before .before .before .before .before .known .ensures) in
     let one = c .before .before .before .before .refused-unless2 .ensures ∙ unless Ignored (c .before .before .before .before .before .hears .ensures) in
     let three = c .before .before .refused-unless3 .ensures ∙ unless x (c .before .before .before .is-done .ensures) in
     let later = c .before .first-refusal .ensures ∙ (λ i. firstOf (one i) (three i)) in
@@ -76,8 +78,14 @@ hand-over-requires c κs =
     let s = c .before .before .before .before .before .before .before .before .before .before .before .before .before in
     let o = none-barred _ _ _ _ (sym (order (c .before .before)) ∙ c .enum-told .given .1) in
     let l = ltb-true (s .args .e .src .0) (s .args .count) (o .source-known) in
-    let m = s .pre .few in
-    (s .pre .net, s .pre .actor, s .pre .table, s .pre .link, omega arith, c .before .before .before .before .before .before .before .before .before .before .on-deliver .ensures)
+    let m = s .pre .few in (
+      s .pre .net,
+      s .pre .actor,
+      s .pre .table,
+      s .pre .link,
+      omega arith,
+      c .before .before .before .before .before .before .before .before .before .before .on-deliver .ensures,
+    )
 
 returns : tie.Need-returns
 unfolding actPart
@@ -85,7 +93,8 @@ returns c =
     let s = c .before .before .before .before .before .before .before .before .before .before .before .before .before .before .before .args in
     let d = c .before .before .before .before .before .before .before .before .before .before .before .before .on-deliver in
     c .refused .ensures
-    ∙ one-barred (s .n) (s .a) _ _ _ _ _ _ (sym (order (c .before .before .before .before)) ∙ c .before .before .refusal .given .1) (deliver-absent (rulesOf (s .t)) (s .n) (s .a) (s .e) (d .result) (d .ensures))
+    ∙ one-barred (s .n) (s .a) _ _ _ _ _ _ (sym (order (c .before .before .before .before)) ∙ c .before .before .refusal .given .1)
+    (deliver-absent (rulesOf (s .t)) (s .n) (s .a) (s .e) (d .result) (d .ensures))
 
 returns-2 : tie.Need-returns-2
 unfolding actPart

@@ -24,7 +24,8 @@ returns-2 : tie.Need-returns-2
 unfolding actPart
 returns-2 c =
     let s = c .before .before .before .before .before in
-    dropped _ _ _ (s .pre .net) (s .pre .actor) _ _ (c .before .on-drop .ensures) ∙ goes _ _ _ _ _ (sym (c .before .before .before .known .ensures) ∙ not-false _ (c .before .before .if1 .left))
+    dropped _ _ _ (s .pre .net) (s .pre .actor) _ _ (c .before .on-drop .ensures)
+    ∙ goes _ _ _ _ _ (sym (c .before .before .before .known .ensures) ∙ not-false _ (c .before .before .if1 .left))
 
 pub drop-spec : {M : Type 1} → statement M
 drop-spec = tie.close (tie.spec known-requires refused-requires returns on-drop-requires returns-2)

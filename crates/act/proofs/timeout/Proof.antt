@@ -33,7 +33,8 @@ timeout-requires c κs = search needs
 
 returns-3 : tie.Need-returns-3
 unfolding actPart
-returns-3 c = c .timeout .ensures ∙ goes _ _ _ _ _ (and-both _ _ (sym (c .before .before .before .known .ensures) ∙ not-false _ (c .before .before .if1 .left)) (c .before .if2 .left))
+returns-3 c = c .timeout .ensures
+    ∙ goes _ _ _ _ _ (and-both _ _ (sym (c .before .before .before .known .ensures) ∙ not-false _ (c .before .before .if1 .left)) (c .before .if2 .left))
 
 pub timeout-spec : {M : Type 1} → statement M
 timeout-spec =

@@ -11,7 +11,8 @@ use Rattle.replay_decimals.proofs.write_decimal.Tie as tie
 
 abbrev Inv-loop : tie.InvT-loop
 Inv-loop out₀ at n end m₀ i₀ out m i =
-    (at ≤ i) × (i ≤ end) × (end ≤ length out₀) × (length out ≡ length out₀) × (end ≡ at + length (decimal n)) × Filled out₀ out at i end m (length (decimal n)) n
+    (at ≤ i) × (i ≤ end) × (end ≤ length out₀) × (length out ≡ length out₀) × (end ≡ at + length (decimal n))
+    × Filled out₀ out at i end m (length (decimal n)) n
 
 abbrev μ-loop : tie.MeasureT-loop
 μ-loop out₀ at n end m₀ i₀ out m i = i
@@ -69,7 +70,8 @@ returns c =
     let l = c .before .loop in
     let e : l .i ≡ a .at = omega arith in (
       l .inv .4,
-      filled (subst (λ (k : ℕ). Filled (a .out .now) (l .out) (a .at) k (a .at + c .before .before .width .result) (l .m) (length (decimal (a .n))) (a .n)) e (l .inv .5))
+      filled (subst (λ (k : ℕ). Filled (a .out .now) (l .out) (a .at) k (a .at + c .before .before .width .result) (l .m) (length (decimal (a .n))) (a .n)) e
+          (l .inv .5))
           ∙ ap (λ (d : List ℕ). take (a .at) (a .out .now) ++ (d ++ drop (a .at + c .before .before .width .result) (a .out .now))) (sym (decimal-last (a .n))),
     )
 

@@ -36,7 +36,8 @@ returns : tie.Need-returns
 unfolding answerLine line
 returns c =
     let s = c .before .before .before .before .before .before .before .before .before in
-    line-told (piece-then (decimal _) _ (s .pre .0) (c .before .before .before .before .before .before .put-decimal .ensures) (c .before .before .put-last .ensures)) (length-answer _ _ (s .fits .answer) (s .fits .len))
+    line-told (piece-then (decimal _) _ (s .pre .0) (c .before .before .before .before .before .before .put-decimal .ensures)
+    (c .before .before .put-last .ensures)) (length-answer _ _ (s .fits .answer) (s .fits .len))
 
 pub answer-line-spec : {M : Type 1} → statement M
 answer-line-spec = tie.close (tie.spec put-decimal-requires put-last-requires same-length returns)

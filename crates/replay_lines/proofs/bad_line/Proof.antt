@@ -37,7 +37,8 @@ returns : tie.Need-returns
 unfolding line
 returns c =
     let s = c .before .before .before .before .before .before .before .before .before .before in
-    line-told (piece-then badWord _ (s .pre .0) (c .before .before .before .before .before .before .put-word .ensures) (c .before .before .put-last .ensures)) (length-bad _ (s .fits .place))
+    line-told (piece-then badWord _ (s .pre .0) (c .before .before .before .before .before .before .put-word .ensures)
+    (c .before .before .put-last .ensures)) (length-bad _ (s .fits .place))
 
 pub bad-line-spec : {M : Type 1} → statement M
 bad-line-spec = tie.close (tie.spec slice-aggregate-put-word put-word-requires put-last-requires same-length returns)

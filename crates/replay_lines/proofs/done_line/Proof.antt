@@ -22,7 +22,8 @@ put-word-requires : tie.Need-put-word-requires
 unfolding line
 put-word-requires c κs =
     let s = c .before .before .before in
-    room-first doneWord (spaced (s .args .next ∷ s .args .ignored ∷ s .args .refused ∷ [])) (room-line (s .pre) (length-done _ _ _ (s .fits .next) (s .fits .ignored) (s .fits .refused)))
+    room-first doneWord (spaced (s .args .next ∷ s .args .ignored ∷ s .args .refused ∷ []))
+    (room-line (s .pre) (length-done _ _ _ (s .fits .next) (s .fits .ignored) (s .fits .refused)))
 
 put-number-requires : tie.Need-put-number-requires
 unfolding line spaced
@@ -36,7 +37,8 @@ unfolding line spaced
 put-last-two-requires c κs =
     let s = c .before .before .before .before .before .before .before .before .before .before .before in
     let room = room-line (s .pre) (length-done _ _ _ (s .fits .next) (s .fits .ignored) (s .fits .refused)) in
-    room-then (32 ∷ decimal _) _ (room-then doneWord _ room (c .before .before .before .before .before .before .before .put-word .ensures)) (c .before .before .before .put-number .ensures)
+    room-then (32 ∷ decimal _) _ (room-then doneWord _ room (c .before .before .before .before .before .before .before .put-word .ensures))
+    (c .before .before .before .put-number .ensures)
 
 same-length : tie.Need-same-length
 same-length c = search needs
@@ -47,7 +49,8 @@ returns c =
     let s = c .before .before .before .before .before .before .before .before .before .before .before .before .before .before in
     let word = c .before .before .before .before .before .before .before .before .before .before .put-word .ensures in
     let fits = fits-then doneWord (spaced (s .args .next ∷ s .args .ignored ∷ s .args .refused ∷ [])) (s .pre .0) word in
-    let last = piece-then (32 ∷ decimal _) _ fits (c .before .before .before .before .before .before .put-number .ensures) (c .before .before .put-last-two .ensures) in
+    let last = piece-then (32 ∷ decimal _) _ fits (c .before .before .before .before .before .before .put-number .ensures)
+    (c .before .before .put-last-two .ensures) in
     line-told (piece-then doneWord _ (s .pre .0) word last) (length-done _ _ _ (s .fits .next) (s .fits .ignored) (s .fits .refused))
 
 pub done-line-spec : {M : Type 1} → statement M

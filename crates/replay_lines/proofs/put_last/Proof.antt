@@ -20,7 +20,8 @@ same-length c = search needs
 
 returns : tie.Need-returns
 unfolding spaced
-returns c = piece-then _ (10 ∷ []) (c .before .before .before .before .before .before .before .before .before .pre .fits) (c .before .before .before .before .before .before .put-number .ensures) (c .before .before .put-byte .ensures)
+returns c = piece-then _ (10 ∷ []) (c .before .before .before .before .before .before .before .before .before .pre .fits)
+    (c .before .before .before .before .before .before .put-number .ensures) (c .before .before .put-byte .ensures)
 
 pub put-last-spec : {M : Type 1} → statement M
 put-last-spec = tie.close (tie.spec put-number-requires put-byte-requires same-length returns)

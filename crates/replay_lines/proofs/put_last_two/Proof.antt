@@ -20,7 +20,8 @@ same-length c = search needs
 
 returns : tie.Need-returns
 unfolding spaced
-returns c = piece-then (32 ∷ decimal _) _ (c .before .before .before .before .before .before .before .before .before .pre .fits) (c .before .before .before .before .before .before .put-number .ensures) (c .before .before .put-last .ensures)
+returns c = piece-then (32 ∷ decimal _) _ (c .before .before .before .before .before .before .before .before .before .pre .fits)
+    (c .before .before .before .before .before .before .put-number .ensures) (c .before .before .put-last .ensures)
 
 pub put-last-two-spec : {M : Type 1} → statement M
 put-last-two-spec = tie.close (tie.spec put-number-requires put-last-requires same-length returns)

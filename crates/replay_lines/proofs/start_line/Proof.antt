@@ -37,7 +37,8 @@ returns : tie.Need-returns
 unfolding line
 returns c =
     let s = c .before .before .before .before .before .before .before .before .before .before in
-    line-told (piece-then startWord _ (s .pre .0) (c .before .before .before .before .before .before .put-word .ensures) (c .before .before .put-last-two .ensures)) (length-start _ _ (s .fits .answer) (s .fits .len))
+    line-told (piece-then startWord _ (s .pre .0) (c .before .before .before .before .before .before .put-word .ensures)
+    (c .before .before .put-last-two .ensures)) (length-start _ _ (s .fits .answer) (s .fits .len))
 
 pub start-line-spec : {M : Type 1} → statement M
 start-line-spec = tie.close (tie.spec slice-aggregate-put-word put-word-requires put-last-two-requires same-length returns)

@@ -36,7 +36,8 @@ use Rattle.script_records.proofs.read_action.Reads as read-action-reads
 
 abbrev Inv-loop : tie.InvT-loop
 Inv-loop script from f out₀ place write count tables network₀ actors₀ totals₀ at₀ end₀ out network actors totals at end =
-    Turn script from f (record { count = count; network = network₀; actors = actors₀; tables = tables }) out₀ place write (record { count = count; network = network; actors = actors; tables = tables }) totals at end out
+    Turn script from f (record { count = count; network = network₀; actors = actors₀; tables = tables }) out₀ place write
+    (record { count = count; network = network; actors = actors; tables = tables }) totals at end out
 
 abbrev μ-loop : tie.MeasureT-loop
 μ-loop script from f out₀ place write count tables network₀ actors₀ totals₀ at₀ end₀ out network actors totals at end =
@@ -57,19 +58,96 @@ seat-requires : tie.Need-seat-requires Inv-loop μ-loop
 seat-requires c κs = search needs
 
 -- the system at the turn
-abbrev now-at : (c : lts.After-seat (read-action-reads.Asked, read-action-reads.Learnt, seat-reads.Asked, seat-reads.Learnt, act-reads.Asked, act-reads.Learnt, number-of-reads.Asked, number-of-reads.Learnt, len-reads.Asked, len-reads.Learnt, answer-line-reads.Asked, answer-line-reads.Learnt, count-answer-reads.Asked, count-answer-reads.Learnt, done-line-reads.Asked, done-line-reads.Learnt) reads.Pre reads.Post Inv-loop μ-loop) → System
-now-at c = record { count = c .before .before .before .before .before .before .before .before .before .before .before .args .s .count; network = c .before .before .before .before .before .loop .network; actors = c .before .before .before .before .before .loop .actors; tables = c .before .before .before .before .before .before .before .before .before .before .before .args .s .tables }
+abbrev now-at : (c : lts.After-seat (
+  read-action-reads.Asked,
+  read-action-reads.Learnt,
+  seat-reads.Asked,
+  seat-reads.Learnt,
+  act-reads.Asked,
+  act-reads.Learnt,
+  number-of-reads.Asked,
+  number-of-reads.Learnt,
+  len-reads.Asked,
+  len-reads.Learnt,
+  answer-line-reads.Asked,
+  answer-line-reads.Learnt,
+  count-answer-reads.Asked,
+  count-answer-reads.Learnt,
+  done-line-reads.Asked,
+  done-line-reads.Learnt,
+) reads.Pre reads.Post Inv-loop μ-loop) → System
+now-at c = record {
+  count = c .before .before .before .before .before .before .before .before .before .before .before .args .s .count;
+  network = c .before .before .before .before .before .loop .network;
+  actors = c .before .before .before .before .before .loop .actors;
+  tables =
+      c .before .before .before .before .before .before .before .before .before .before .before .args .s .tables;
+}
 
-abbrev action : (c : lts.After-seat (read-action-reads.Asked, read-action-reads.Learnt, seat-reads.Asked, seat-reads.Learnt, act-reads.Asked, act-reads.Learnt, number-of-reads.Asked, number-of-reads.Learnt, len-reads.Asked, len-reads.Learnt, answer-line-reads.Asked, answer-line-reads.Learnt, count-answer-reads.Asked, count-answer-reads.Learnt, done-line-reads.Asked, done-line-reads.Learnt) reads.Pre reads.Post Inv-loop μ-loop) → Action
+abbrev action : (c : lts.After-seat (
+  read-action-reads.Asked,
+  read-action-reads.Learnt,
+  seat-reads.Asked,
+  seat-reads.Learnt,
+  act-reads.Asked,
+  act-reads.Learnt,
+  number-of-reads.Asked,
+  number-of-reads.Learnt,
+  len-reads.Asked,
+  len-reads.Learnt,
+  answer-line-reads.Asked,
+  answer-line-reads.Learnt,
+  count-answer-reads.Asked,
+  count-answer-reads.Learnt,
+  done-line-reads.Asked,
+  done-line-reads.Learnt,
+) reads.Pre reads.Post Inv-loop μ-loop) → Action
 action c = c .before .before .x .given .0 .0
 
 -- the action that was read there
 seen
-    : (c : lts.After-seat (read-action-reads.Asked, read-action-reads.Learnt, seat-reads.Asked, seat-reads.Learnt, act-reads.Asked, act-reads.Learnt, number-of-reads.Asked, number-of-reads.Learnt, len-reads.Asked, len-reads.Learnt, answer-line-reads.Asked, answer-line-reads.Learnt, count-answer-reads.Asked, count-answer-reads.Learnt, done-line-reads.Asked, done-line-reads.Learnt) reads.Pre reads.Post Inv-loop μ-loop)
-    → actionRead (one (actionForm (c .before .before .before .before .before .before .before .before .before .before .before .args .f)) (drop (c .before .before .before .before .before .loop .at) (c .before .before .before .before .before .before .before .before .before .before .before .args .script .now)) (c .before .before .before .before .before .loop .at)) ≡ Act (action c) (c .before .before .x .given .0 .1 .0)
+    : (c : lts.After-seat (
+      read-action-reads.Asked,
+      read-action-reads.Learnt,
+      seat-reads.Asked,
+      seat-reads.Learnt,
+      act-reads.Asked,
+      act-reads.Learnt,
+      number-of-reads.Asked,
+      number-of-reads.Learnt,
+      len-reads.Asked,
+      len-reads.Learnt,
+      answer-line-reads.Asked,
+      answer-line-reads.Learnt,
+      count-answer-reads.Asked,
+      count-answer-reads.Learnt,
+      done-line-reads.Asked,
+      done-line-reads.Learnt,
+    ) reads.Pre reads.Post Inv-loop μ-loop)
+    → actionRead (one (actionForm (c .before .before .before .before .before .before .before .before .before .before .before .args .f))
+    (drop (c .before .before .before .before .before .loop .at)
+    (c .before .before .before .before .before .before .before .before .before .before .before .args .script .now))
+    (c .before .before .before .before .before .loop .at)) ≡ Act (action c) (c .before .before .x .given .0 .1 .0)
 seen c = sym (c .before .before .before .before .read-action .ensures .0) ∙ c .before .before .x .given .1
 
-in-arrays : (c : lts.After-seat (read-action-reads.Asked, read-action-reads.Learnt, seat-reads.Asked, seat-reads.Learnt, act-reads.Asked, act-reads.Learnt, number-of-reads.Asked, number-of-reads.Learnt, len-reads.Asked, len-reads.Learnt, answer-line-reads.Asked, answer-line-reads.Learnt, count-answer-reads.Asked, count-answer-reads.Learnt, done-line-reads.Asked, done-line-reads.Learnt) reads.Pre reads.Post Inv-loop μ-loop) → c .seat .result < mostActors
+in-arrays : (c : lts.After-seat (
+  read-action-reads.Asked,
+  read-action-reads.Learnt,
+  seat-reads.Asked,
+  seat-reads.Learnt,
+  act-reads.Asked,
+  act-reads.Learnt,
+  number-of-reads.Asked,
+  number-of-reads.Learnt,
+  len-reads.Asked,
+  len-reads.Learnt,
+  answer-line-reads.Asked,
+  answer-line-reads.Learnt,
+  count-answer-reads.Asked,
+  count-answer-reads.Learnt,
+  done-line-reads.Asked,
+  done-line-reads.Learnt,
+) reads.Pre reads.Post Inv-loop μ-loop) → c .seat .result < mostActors
 in-arrays c = below (now-at c) (c .before .before .before .before .before .loop .inv .ready) (action c) (c .seat .result) (c .seat .ensures) no-actor no-table
 
 mul-actor : tie.Need-mul-actor Inv-loop μ-loop
@@ -91,12 +169,30 @@ act-requires c κs =
 
 -- what the core gave is the rules' action
 given
-    : (c : lts.After-act (read-action-reads.Asked, read-action-reads.Learnt, seat-reads.Asked, seat-reads.Learnt, act-reads.Asked, act-reads.Learnt, number-of-reads.Asked, number-of-reads.Learnt, len-reads.Asked, len-reads.Learnt, answer-line-reads.Asked, answer-line-reads.Learnt, count-answer-reads.Asked, count-answer-reads.Learnt, done-line-reads.Asked, done-line-reads.Learnt) reads.Pre reads.Post Inv-loop μ-loop)
+    : (c : lts.After-act (
+      read-action-reads.Asked,
+      read-action-reads.Learnt,
+      seat-reads.Asked,
+      seat-reads.Learnt,
+      act-reads.Asked,
+      act-reads.Learnt,
+      number-of-reads.Asked,
+      number-of-reads.Learnt,
+      len-reads.Asked,
+      len-reads.Learnt,
+      answer-line-reads.Asked,
+      answer-line-reads.Learnt,
+      count-answer-reads.Asked,
+      count-answer-reads.Learnt,
+      done-line-reads.Asked,
+      done-line-reads.Learnt,
+    ) reads.Pre reads.Post Inv-loop μ-loop)
     → let d = c .before .before .before in
     writtenBack (now-at d) (d .seat .result) (c .act .result) ≡ answeredOf (now-at d) (systems (rules.act base (sysView (now-at d)) (action d)))
 given c =
     let d = c .before .before .before in
-    act-written (now-at d) (d .before .before .before .before .before .loop .inv .ready) (action d) (d .seat .result) (d .seat .ensures) no-actor no-table (c .act .result) (c .act .ensures)
+    act-written (now-at d) (d .before .before .before .before .before .loop .inv .ready) (action d) (d .seat .result) (d .seat .ensures) no-actor no-table
+    (c .act .result) (c .act .ensures)
 
 number-of-requires : tie.Need-number-of-requires Inv-loop μ-loop
 number-of-requires c κs = search needs
@@ -115,8 +211,10 @@ answer-line-requires c κs =
     let b = c .before .before .before .before .before in
     let d = b .before .before .before in
     let g = d .before .before .before .before .before .loop .inv in
-    let go = going g (action d) (d .before .before .x .given .0 .1 .0) (seen d) in
-    (λ w. rw (n, l) (line-fits g (action d) (d .before .before .x .given .0 .1 .0) (seen d) (b .act .result) (d .seat .result) (given b) w), omega (arith, g .wide, go .here, g .runs .short))
+    let go = going g (action d) (d .before .before .x .given .0 .1 .0) (seen d) in (
+      λ w. rw (n, l) (line-fits g (action d) (d .before .before .x .given .0 .1 .0) (seen d) (b .act .result) (d .seat .result) (given b) w),
+      omega (arith, g .wide, go .here, g .runs .short),
+    )
 
 count-answer-requires : tie.Need-count-answer-requires Inv-loop μ-loop
 count-answer-requires c κs =
@@ -189,7 +287,8 @@ same-length-2 c =
 
 returns-2 : tie.Need-returns-2 Inv-loop μ-loop
 returns-2 c =
-    absurd (no-bad (c .before .before .before .loop .inv) (c .enum-told2 .given .0 .0) (sym (c .before .before .read-action .ensures .0) ∙ c .enum-told2 .given .1))
+    absurd (no-bad (c .before .before .before .loop .inv) (c .enum-told2 .given .0 .0)
+    (sym (c .before .before .read-action .ensures .0) ∙ c .enum-told2 .given .1))
 
 pub run-spec : {M : Type 1} → statement M
 run-spec =

@@ -24,7 +24,8 @@ returns : tie.Need-returns
 returns c =
     let s = c .before .before .before .before .before .before .before .before in
     let h = good-longest (s .args .script .now) (parts-of versions _ (s .pre)) in
-    told-all (c .before .before .tell-run .ensures) (omega (arith, h, c .before .before .before .before .if1 .taken, c .before .before .before .before .before .room-for .ensures))
+    told-all (c .before .before .tell-run .ensures)
+    (omega (arith, h, c .before .before .before .before .if1 .taken, c .before .before .before .before .before .room-for .ensures))
 
 tell-run-requires-2 : tie.Need-tell-run-requires-2
 tell-run-requires-2 c κs = (c .before .before .before .before .before .pre, λ w. absurd (false≢true w))
@@ -37,7 +38,8 @@ same-length-2 c = search needs
 
 returns-2 : tie.Need-returns-2
 returns-2 c =
-    told-after (c .before .before .before .before .before .before .before .tell-run2 .ensures) (c .before .before .before .before .if2 .taken) (c .before .before .tell-run3 .ensures)
+    told-after (c .before .before .before .before .before .before .before .tell-run2 .ensures) (c .before .before .before .before .if2 .taken)
+    (c .before .before .tell-run3 .ensures)
 
 same-length-3 : tie.Need-same-length-3
 same-length-3 c = search needs

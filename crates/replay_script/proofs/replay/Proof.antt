@@ -27,7 +27,9 @@ same-length c = search needs
 
 returns : tie.Need-returns
 returns c =
-    let t = told-bad (c .before .before .before .before .before .before .before .before .before .before .args .script .now) _ (sym (c .before .before .before .before .before .before .before .check-script .ensures .0) ∙ c .before .before .before .before .before .layout .given .1) (c .before .before .put-bad .ensures) in
+    let t = told-bad (c .before .before .before .before .before .before .before .before .before .before .args .script .now) _
+    (sym (c .before .before .before .before .before .before .before .check-script .ensures .0) ∙ c .before .before .before .before .before .layout .given .1)
+    (c .before .before .put-bad .ensures) in
     (t .size, t .bytes)
 
 same-length-2 : tie.Need-same-length-2

@@ -61,7 +61,12 @@ number-of-requires c κs = search needs
 parts : (c : Opened-here) → Parts versions (c .before .before .before .args .script .now)
 parts c = parts-of versions (c .before .before .before .args .script .now) (c .before .before .before .pre .0)
 
-opened : (c : Opened-here) → c .«open» .result ≡ record { answered = answeredOf (systemOf blank) (systems (m (c .before .before .before .args .script .now) (parts c))); version = parts c .opening .version; next = parts c .next }
+opened : (c : Opened-here)
+    → c .«open» .result ≡ record {
+      answered = answeredOf (systemOf blank) (systems (m (c .before .before .before .args .script .now) (parts c)));
+      version = parts c .opening .version;
+      next = parts c .next;
+    }
 opened c = c .«open» .ensures ∙ ap openedOf (parts c .readsOpening)
 
 here : (c : Opened-here) → Begun (m (c .before .before .before .args .script .now) (parts c)) (c .«open» .result .answered)
@@ -75,8 +80,11 @@ start-line-requires c κs =
     let o = c .before .before .before .before .before .before in
     let s = o .before .before .before in
     let n = c .before .before .number-of in
-    let k = c .before .len in
-    (first-fits (s .args .script .now) (parts o) (o .«open» .result .answered) (here o) (s .args .write) (s .args .out .now) (s .pre .1) (n .result) (k .result) (n .ensures) (k .ensures), lit≤ tt)
+    let k = c .before .len in (
+      first-fits (s .args .script .now) (parts o) (o .«open» .result .answered) (here o) (s .args .write) (s .args .out .now) (s .pre .1) (n .result)
+          (k .result) (n .ensures) (k .ensures),
+      lit≤ tt,
+    )
 
 is-done-requires : tie.Need-is-done-requires
 is-done-requires c κs = search needs
@@ -89,8 +97,11 @@ done-line-requires c κs =
     let n = a .before .before .before .number-of in
     let k = a .before .before .len in
     let e = a .start-line .ensures in
-    let h = sym (c .before .before .is-done .ensures) ∙ not-true _ (c .before .if1 .taken) in
-    (ends-fit (s .args .script .now) (parts o) (o .«open» .result .answered) (here o) (s .args .write) (s .args .out .now) (s .pre .1) (n .result) (k .result) (n .ensures) (k .ensures) (record { next = e .0; bytes = e .1 .0 }) h, omega (arith, e .1 .1))
+    let h = sym (c .before .before .is-done .ensures) ∙ not-true _ (c .before .if1 .taken) in (
+      ends-fit (s .args .script .now) (parts o) (o .«open» .result .answered) (here o) (s .args .write) (s .args .out .now) (s .pre .1) (n .result)
+          (k .result) (n .ensures) (k .ensures) (record { next = e .0; bytes = e .1 .0 }) h,
+      omega (arith, e .1 .1),
+    )
 
 same-length : tie.Need-same-length
 same-length c = search needs
@@ -105,7 +116,8 @@ returns c =
     let e = a .start-line .ensures in
     let h = sym (c .before .before .before .before .before .is-done .ensures) ∙ not-true _ (c .before .before .before .before .if1 .taken) in
     let d = c .before .before .done-line .ensures in
-    ends-all (s .args .script .now) (parts o) (o .«open» .result .answered) (here o) (s .args .write) (s .args .out .now) (s .pre .1) (n .result) (k .result) (n .ensures) (k .ensures) (record { next = e .0; bytes = e .1 .0 }) h (record { next = d .0; bytes = d .1 .0 })
+    ends-all (s .args .script .now) (parts o) (o .«open» .result .answered) (here o) (s .args .write) (s .args .out .now) (s .pre .1) (n .result) (k .result)
+    (n .ensures) (k .ensures) (record { next = e .0; bytes = e .1 .0 }) h (record { next = d .0; bytes = d .1 .0 })
 
 format-of-requires : tie.Need-format-of-requires
 format-of-requires c κs = search needs

@@ -42,7 +42,9 @@ power-requires c κs = search needs
 
 -- what a turn makes of the number
 turned
-    : (c : lts.After-power (there-reads.Asked, there-reads.Learnt, in-byte-reads.Asked, in-byte-reads.Learnt, power-reads.Asked, power-reads.Learnt) reads.Pre reads.Post Inv-loop μ-loop)
+    : (c : lts.After-power
+    (there-reads.Asked, there-reads.Learnt, in-byte-reads.Asked, in-byte-reads.Learnt, power-reads.Asked, power-reads.Learnt) reads.Pre reads.Post
+    Inv-loop μ-loop)
     → let l = c .before .before .before .before .loop in
     let a = c .before .before .before .before .before .before .args in
     l .n * c .power .result + c .before .in-byte .result ≡ fieldAt (a .s .now) (a .at) (l .i + c .before .before .there .result)

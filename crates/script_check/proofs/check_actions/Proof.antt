@@ -60,7 +60,8 @@ returns-2 c =
     let l = r .before .loop in
     let a = r .before .before .before .args in
     sym (l .inv .0
-    ∙ layout-more (a .f) (a .script .now) (l .at) (sym (c .before .before .x2 .given .1) ∙ r .read-action .ensures .0) (λ e. c .if1 .left (e ∙ sym (l .inv .1))))
+    ∙ layout-more (a .f) (a .script .now) (l .at) (sym (c .before .before .x2 .given .1) ∙ r .read-action .ensures .0)
+    (λ e. c .if1 .left (e ∙ sym (l .inv .1))))
 
 enum-known-x-3 : tie.Need-enum-known-x-3 Inv-loop μ-loop
 enum-known-x-3 c = search needs

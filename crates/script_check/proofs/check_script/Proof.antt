@@ -27,7 +27,8 @@ returns-2 c =
     let r = c .before in
     let s = r .before .before .before .args .script .now in
     layout-both (readScript versions s)
-    (sym (not-long versions s (r .before .if1 .left) ∙ opening-bad versions s (told-bad opening-tells (openingFrom versions) s 0 (r .read-opening .ensures .0) (not-true _ (c .if2 .taken)))))
+    (sym (not-long versions s (r .before .if1 .left)
+    ∙ opening-bad versions s (told-bad opening-tells (openingFrom versions) s 0 (r .read-opening .ensures .0) (not-true _ (c .if2 .taken)))))
 
 format-of-requires : tie.Need-format-of-requires
 format-of-requires c κs = search needs

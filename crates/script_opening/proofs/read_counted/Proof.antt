@@ -52,7 +52,8 @@ loop-again c =
     let f = c .before .before .before in
     let l = f .before .before .loop in
     let a = f .before .before .before .before .before .args in
-    reads-more mostEntries zeroEnvelope (one (envelopeForm (a .f))) (a .script .now) (a .at) (a .count) (l .inv) (omega arith) (omega arith) (envelope-found (a .script .now) (l .next) (envelopeForm (a .f)) (sym (c .before .x .given .1) ∙ f .read-envelope .ensures .0))
+    reads-more mostEntries zeroEnvelope (one (envelopeForm (a .f))) (a .script .now) (a .at) (a .count) (l .inv) (omega arith) (omega arith)
+    (envelope-found (a .script .now) (l .next) (envelopeForm (a .f)) (sym (c .before .x .given .1) ∙ f .read-envelope .ensures .0))
 
 enum-known-x-2 : tie.Need-enum-known-x-2 Inv-loop μ-loop
 enum-known-x-2 c = search needs
@@ -66,7 +67,9 @@ returns c =
     let l = f .before .before .loop in
     let a = f .before .before .before .before .before .args in
     c .bad-envelopes .ensures
-    ∙ ap envelopesRead (sym (reads-bad mostEntries zeroEnvelope (one (envelopeForm (a .f))) (a .script .now) (a .at) (a .count) (l .inv) (omega arith) (envelope-bad (a .script .now) (l .next) (envelopeForm (a .f)) (sym (c .before .before .x2 .given .1) ∙ f .read-envelope .ensures .0))))
+    ∙ ap envelopesRead (sym
+    (reads-bad mostEntries zeroEnvelope (one (envelopeForm (a .f))) (a .script .now) (a .at) (a .count) (l .inv) (omega arith)
+    (envelope-bad (a .script .now) (l .next) (envelopeForm (a .f)) (sym (c .before .before .x2 .given .1) ∙ f .read-envelope .ensures .0))))
 
 returns-2 : tie.Need-returns-2 Inv-loop μ-loop
 returns-2 c =

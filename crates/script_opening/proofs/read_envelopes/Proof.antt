@@ -22,7 +22,8 @@ read-counted-requires : tie.Need-read-counted-requires
 read-counted-requires c κs =
     let r = c .before .before .before in
     let a = r .before .before .args in
-    let k = few-envelopes (a .f) (drop (a .at) (a .script .now)) (a .at) (count-found (a .script .now) (a .at) (envelopeCountForm (a .f)) (sym (c .before .c .given .1) ∙ r .read-envelope-count .ensures .0)) in
+    let k = few-envelopes (a .f) (drop (a .at) (a .script .now)) (a .at)
+    (count-found (a .script .now) (a .at) (envelopeCountForm (a .f)) (sym (c .before .c .given .1) ∙ r .read-envelope-count .ensures .0)) in
     (omega (arith, k, r .before .before .pre .most), r .before .before .pre)
 
 enum-known-c-2 : tie.Need-enum-known-c-2

@@ -32,7 +32,8 @@ returns-2 c =
     let a = r .before .before .args in
     let h : Header = record { version = a .version; kind = a .kind; actors = a .actors } in
     c .bad-opening2 .ensures
-    ∙ no-envelopes (a .f) (a .script .now) (a .at) h (r .read-tables .ensures .0) (not-false _ (c .before .before .before .before .if1 .left)) (c .before .before .before .read-envelopes .ensures .0)
+    ∙ no-envelopes (a .f) (a .script .now) (a .at) h (r .read-tables .ensures .0) (not-false _ (c .before .before .before .before .if1 .left))
+    (c .before .before .before .read-envelopes .ensures .0)
     (not-true _ (c .before .if2 .taken))
 
 returns-3 : tie.Need-returns-3
@@ -40,7 +41,8 @@ returns-3 c =
     let r = c .before .before .before .before .before in
     let a = r .before .before .args in
     let h : Header = record { version = a .version; kind = a .kind; actors = a .actors } in
-    both-lists (a .f) (a .script .now) (a .at) h (r .read-tables .ensures .0) (not-false _ (c .before .before .before .if1 .left)) (c .before .before .read-envelopes .ensures .0)
+    both-lists (a .f) (a .script .now) (a .at) h (r .read-tables .ensures .0) (not-false _ (c .before .before .before .if1 .left))
+    (c .before .before .read-envelopes .ensures .0)
     (not-false _ (c .if2 .left))
 
 pub read-lists-spec : {M : Type 1} → statement M

@@ -43,7 +43,8 @@ returns c =
     let a = c .before .before .before .before .before .before .before .before .args in
     let f = c .before .before .before .read-rule in
     c .bad-table .ensures
-    ∙ ap tableRead (sym (reads-bad mostRules zeroRule (one (ruleForm (a .f))) (a .script .now) (a .at) (a .count) (l .inv) (omega arith) (rule-bad (a .script .now) (l .next) (a .f) (f .ensures .0) (not-true _ (c .before .if1 .taken)))))
+    ∙ ap tableRead (sym (reads-bad mostRules zeroRule (one (ruleForm (a .f))) (a .script .now) (a .at) (a .count) (l .inv) (omega arith)
+    (rule-bad (a .script .now) (l .next) (a .f) (f .ensures .0) (not-true _ (c .before .if1 .taken)))))
 
 mul-rules : tie.Need-mul-rules Inv-loop μ-loop
 mul-rules c = search needs
@@ -62,7 +63,8 @@ loop-again c =
     let l = c .before .before .before .before .loop in
     let a = c .before .before .before .before .before .before .before .args in
     let f = c .before .before .read-rule in
-    reads-more mostRules zeroRule (one (ruleForm (a .f))) (a .script .now) (a .at) (a .count) (l .inv) (omega arith) (omega arith) (rule-found (a .script .now) (l .next) (a .f) (f .ensures .0) (not-false _ (c .if1 .left)))
+    reads-more mostRules zeroRule (one (ruleForm (a .f))) (a .script .now) (a .at) (a .count) (l .inv) (omega arith) (omega arith)
+    (rule-found (a .script .now) (l .next) (a .f) (f .ensures .0) (not-false _ (c .if1 .left)))
 
 returns-2 : tie.Need-returns-2 Inv-loop μ-loop
 returns-2 c =

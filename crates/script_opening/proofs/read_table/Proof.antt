@@ -20,8 +20,11 @@ enum-known-c c = search needs
 read-rules-requires : tie.Need-read-rules-requires
 read-rules-requires c κs =
     let r = c .before .before .before in
-    let a = r .before .before .args in
-    (few-rules (drop (a .at) (a .script .now)) (a .at) (count-found (a .script .now) (a .at) ruleCountForm (sym (c .before .c .given .1) ∙ r .read-rule-count .ensures .0)), r .before .before .pre)
+    let a = r .before .before .args in (
+      few-rules (drop (a .at) (a .script .now)) (a .at)
+          (count-found (a .script .now) (a .at) ruleCountForm (sym (c .before .c .given .1) ∙ r .read-rule-count .ensures .0)),
+      r .before .before .pre,
+    )
 
 enum-known-c-2 : tie.Need-enum-known-c-2
 enum-known-c-2 c = search needs

@@ -65,7 +65,8 @@ loop-again c =
     let l = c .before .before .before .before .loop in
     let a = c .before .before .before .before .before .before .before .args in
     let f = c .before .before .read-table in
-    reads-more mostActors zeroTable (tableReader (a .f)) (a .script .now) (a .at) (a .count) (l .inv) (omega arith) (omega arith) (table-found (a .f) (a .script .now) (l .next) (f .ensures .0) (not-false _ (c .if1 .left)))
+    reads-more mostActors zeroTable (tableReader (a .f)) (a .script .now) (a .at) (a .count) (l .inv) (omega arith) (omega arith)
+    (table-found (a .f) (a .script .now) (l .next) (f .ensures .0) (not-false _ (c .if1 .left)))
 
 returns-2 : tie.Need-returns-2 Inv-loop μ-loop
 returns-2 c =

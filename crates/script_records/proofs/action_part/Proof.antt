@@ -49,29 +49,46 @@ returns-2 c =
 returns-3 : tie.Need-returns-3
 returns-3 c =
     let a = c .before .before .before .before .before .before .before .args in
-    let e = c .before .envelope-part in
-    (c .with-envelope .ensures ∙ ap (withEnvelope true) (e .ensures .0) ∙ sym (deliver-kind (a .s .now) (a .f) (c .before .before .before .before .before .field8 .ensures) (c .before .before .before .if1 .left) (omega arith)), with-end true (e .result) (c .with-envelope .ensures) (e .ensures .1))
+    let e = c .before .envelope-part in (
+      c .with-envelope .ensures ∙ ap (withEnvelope true) (e .ensures .0)
+          ∙ sym (deliver-kind (a .s .now) (a .f) (c .before .before .before .before .before .field8 .ensures) (c .before .before .before .if1 .left)
+          (omega arith)),
+      with-end true (e .result) (c .with-envelope .ensures) (e .ensures .1),
+    )
 
 returns-4 : tie.Need-returns-4
 returns-4 c =
     let a = c .before .before .before .before .before .before .before .args in
-    let e = c .before .envelope-part2 in
-    (c .with-envelope2 .ensures ∙ ap (withEnvelope false) (e .ensures .0) ∙ sym (drop-kind (a .s .now) (a .f) (c .before .before .before .before .before .field8 .ensures) (c .before .before .before .if1 .left) (omega arith)), with-end false (e .result) (c .with-envelope2 .ensures) (e .ensures .1))
+    let e = c .before .envelope-part2 in (
+      c .with-envelope2 .ensures ∙ ap (withEnvelope false) (e .ensures .0)
+          ∙ sym (drop-kind (a .s .now) (a .f) (c .before .before .before .before .before .field8 .ensures) (c .before .before .before .if1 .left)
+          (omega arith)),
+      with-end false (e .result) (c .with-envelope2 .ensures) (e .ensures .1),
+    )
 
 returns-5 : tie.Need-returns-5
 returns-5 c =
-    let a = c .before .before .before .before .before .before .before .args in
-    (sym (ap actionPart (timeout-kind (a .s .now) (a .f) (c .before .before .before .before .before .field8 .ensures) (c .before .before .before .if1 .left) (omega arith) (c .before .field82 .ensures) (c .field83 .ensures))), search needs)
+    let a = c .before .before .before .before .before .before .before .args in (
+      sym (ap actionPart (timeout-kind (a .s .now) (a .f) (c .before .before .before .before .before .field8 .ensures) (c .before .before .before .if1 .left)
+          (omega arith) (c .before .field82 .ensures) (c .field83 .ensures))),
+      search needs,
+    )
 
 returns-6 : tie.Need-returns-6
 returns-6 c =
-    let a = c .before .before .before .before .before .before .args in
-    (sym (ap actionPart (crash-kind (a .s .now) (a .f) (c .before .before .before .before .field8 .ensures) (c .before .before .if1 .left) (omega arith) (c .field84 .ensures))), search needs)
+    let a = c .before .before .before .before .before .before .args in (
+      sym (ap actionPart (crash-kind (a .s .now) (a .f) (c .before .before .before .before .field8 .ensures) (c .before .before .if1 .left) (omega arith)
+          (c .field84 .ensures))),
+      search needs,
+    )
 
 returns-7 : tie.Need-returns-7
 returns-7 c =
-    let a = c .before .before .before .before .before .before .args in
-    (sym (ap actionPart (recover-kind (a .s .now) (a .f) (c .before .before .before .before .field8 .ensures) (c .before .before .if1 .left) (omega arith) (c .field85 .ensures))), search needs)
+    let a = c .before .before .before .before .before .before .args in (
+      sym (ap actionPart (recover-kind (a .s .now) (a .f) (c .before .before .before .before .field8 .ensures) (c .before .before .if1 .left) (omega arith)
+          (c .field85 .ensures))),
+      search needs,
+    )
 
 returns-8 : tie.Need-returns-8
 returns-8 c =

@@ -63,23 +63,35 @@ add-t25 c = search needs
 
 returns : tie.Need-returns
 returns c =
-    let a = c .before .before .before .before .before .args in
-    (sym (ap commandPart (set-at (a .s .now) (a .f) (a .at) refl (omega (arith, c .before .before .before .field8 .ensures)) (c .field82 .ensures) refl)), search needs)
+    let a = c .before .before .before .before .before .args in (
+      sym (ap commandPart (set-at (a .s .now) (a .f) (a .at) refl (omega (arith, c .before .before .before .field8 .ensures)) (c .field82 .ensures) refl)),
+      search needs,
+    )
 
 returns-2 : tie.Need-returns-2
 returns-2 c =
-    let a = c .before .before .before .before .before .args in
-    (sym (ap commandPart (cancel-at (a .s .now) (a .f) (a .at) refl (omega (arith, c .before .before .before .field8 .ensures)) (c .field83 .ensures) refl)), search needs)
+    let a = c .before .before .before .before .before .args in (
+      sym (ap commandPart (cancel-at (a .s .now) (a .f) (a .at) refl (omega (arith, c .before .before .before .field8 .ensures)) (c .field83 .ensures) refl)),
+      search needs,
+    )
 
 returns-3 : tie.Need-returns-3
 returns-3 c =
-    let a = c .before .before .before .before .before .before .before .before .args in
-    (sym (ap commandPart (send-at (a .s .now) (a .f) (a .at) refl (omega (arith, c .before .before .before .before .before .before .field8 .ensures)) (c .before .before .before .field84 .ensures) (c .before .before .field85 .ensures) (c .before .field86 .ensures) (c .field32 .ensures) refl)), search needs)
+    let a = c .before .before .before .before .before .before .before .before .args in (
+      sym (ap commandPart
+          (send-at (a .s .now) (a .f) (a .at) refl (omega (arith, c .before .before .before .before .before .before .field8 .ensures))
+          (c .before .before .before .field84 .ensures) (c .before .before .field85 .ensures) (c .before .field86 .ensures) (c .field32 .ensures) refl)),
+      search needs,
+    )
 
 returns-4 : tie.Need-returns-4
 returns-4 c =
-    let a = c .before .before .before .before .before .before .args in
-    (sym (ap commandPart (save-at (a .s .now) (a .f) (a .at) refl (omega (arith, c .before .before .before .before .field8 .ensures)) (c .before .field87 .ensures) (c .field322 .ensures) refl)), search needs)
+    let a = c .before .before .before .before .before .before .args in (
+      sym (ap commandPart
+          (save-at (a .s .now) (a .f) (a .at) refl (omega (arith, c .before .before .before .before .field8 .ensures)) (c .before .field87 .ensures)
+          (c .field322 .ensures) refl)),
+      search needs,
+    )
 
 returns-5 : tie.Need-returns-5
 returns-5 c =

@@ -92,7 +92,8 @@ loop-again : tie.Need-loop-again Inv-loop μ-loop
 loop-again c =
     let k = c .before .c .given .1 in
     let r = c .before .before .before in
-    one-more (r .before .before .loop .inv) (omega arith) (omega arith) (sym k ∙ r .command-part .ensures .0) (omega (arith, r .command-part .ensures .1, ap commandEnd k))
+    one-more (r .before .before .loop .inv) (omega arith) (omega arith) (sym k ∙ r .command-part .ensures .0)
+    (omega (arith, r .command-part .ensures .1, ap commandEnd k))
 
 enum-told : tie.Need-enum-told Inv-loop μ-loop
 enum-told c = search needs

@@ -31,12 +31,14 @@ add-t8 c =
 returns : tie.Need-returns
 returns c =
     let a = c .before .before .before .before .args in
-    ap (λ (b : Bool). endingOf (a .at) b (a .used)) (sym (c .if1 .taken) ∙ c .before .whole .ensures ∙ ap (λ (xs : List ℕ). wholeOf xs (a .used)) (c .before .before .from .ensures))
+    ap (λ (b : Bool). endingOf (a .at) b (a .used))
+    (sym (c .if1 .taken) ∙ c .before .whole .ensures ∙ ap (λ (xs : List ℕ). wholeOf xs (a .used)) (c .before .before .from .ensures))
 
 returns-2 : tie.Need-returns-2
 returns-2 c =
     let a = c .before .before .before .before .args in
-    ap (λ (b : Bool). endingOf (a .at) b (a .used)) (sym (c .if1 .left) ∙ c .before .whole .ensures ∙ ap (λ (xs : List ℕ). wholeOf xs (a .used)) (c .before .before .from .ensures))
+    ap (λ (b : Bool). endingOf (a .at) b (a .used))
+    (sym (c .if1 .left) ∙ c .before .whole .ensures ∙ ap (λ (xs : List ℕ). wholeOf xs (a .used)) (c .before .before .from .ensures))
 
 pub end-of-spec : {M : Type 1} → statement M
 end-of-spec = tie.close (tie.spec from-requires whole-requires add-t6 add-t8 returns returns-2)

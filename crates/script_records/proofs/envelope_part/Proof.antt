@@ -34,15 +34,22 @@ returns : tie.Need-returns
 returns c =
     let a = c .before .before .before .before .before .before .before .args in
     let m = c .before .before .before .message-part in
-    let h = message-found (sym (c .before .m .given .1) ∙ m .ensures .0) in
-    (sym (ap envelopePart (envelope-at (a .s .now) (a .f) (a .at) (c .before .before .before .before .before .field8 .ensures) (c .before .before .before .before .field82 .ensures) refl h)), omega (arith, m .ensures .1, ap messageEnd (c .before .m .given .1)))
+    let h = message-found (sym (c .before .m .given .1) ∙ m .ensures .0) in (
+      sym (ap envelopePart
+          (envelope-at (a .s .now) (a .f) (a .at) (c .before .before .before .before .before .field8 .ensures)
+          (c .before .before .before .before .field82 .ensures) refl h)),
+      omega (arith, m .ensures .1, ap messageEnd (c .before .m .given .1)),
+    )
 
 returns-2 : tie.Need-returns-2
 returns-2 c =
     let a = c .before .before .before .before .before .before .args in
     let m = c .before .before .message-part in
-    let h = message-stuck (sym (c .enum-told .given .1) ∙ m .ensures .0) in
-    (sym (ap envelopePart (no-envelope (a .s .now) (a .f) (a .at) (c .before .before .before .before .field8 .ensures) (c .before .before .before .field82 .ensures) refl h)), search needs)
+    let h = message-stuck (sym (c .enum-told .given .1) ∙ m .ensures .0) in (
+      sym (ap envelopePart
+          (no-envelope (a .s .now) (a .f) (a .at) (c .before .before .before .before .field8 .ensures) (c .before .before .before .field82 .ensures) refl h)),
+      search needs,
+    )
 
 pub envelope-part-spec : {M : Type 1} → statement M
 envelope-part-spec =

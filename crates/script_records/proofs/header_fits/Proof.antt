@@ -22,17 +22,35 @@ returns-2 c = rw (sym (c .before .before .known .ensures) ∙ not-false _ (c .be
 returns-3 : tie.Need-returns-3
 unfolding headerOk every
 returns-3 c =
-    rw (sym (c .before .before .before .known .ensures) ∙ not-false _ (c .before .before .if1 .left), le-leb _ _ (c .before .if2 .left), lt-leb _ _ (c .if3 .taken))
+    rw (
+      sym (c .before .before .before .known .ensures)
+          ∙ not-false _ (c .before .before .if1 .left),
+      le-leb _ _ (c .before .if2 .left),
+      lt-leb _ _ (c .if3 .taken),
+    )
 
 returns-4 : tie.Need-returns-4
 unfolding headerOk every
 returns-4 c =
-    rw (sym (c .before .before .before .before .known .ensures) ∙ not-false _ (c .before .before .before .if1 .left), le-leb _ _ (c .before .before .if2 .left), le-leb _ _ (c .before .if3 .left), lt-leb _ _ (c .if4 .taken))
+    rw (
+      sym (c .before .before .before .before .known .ensures)
+          ∙ not-false _ (c .before .before .before .if1 .left),
+      le-leb _ _ (c .before .before .if2 .left),
+      le-leb _ _ (c .before .if3 .left),
+      lt-leb _ _ (c .if4 .taken),
+    )
 
 returns-5 : tie.Need-returns-5
 unfolding headerOk every
 returns-5 c =
-    rw (sym (c .before .before .before .before .known .ensures) ∙ not-false _ (c .before .before .before .if1 .left), le-leb _ _ (c .before .before .if2 .left), le-leb _ _ (c .before .if3 .left), le-leb _ _ (c .if4 .left), and-true)
+    rw (
+      sym (c .before .before .before .before .known .ensures)
+          ∙ not-false _ (c .before .before .before .if1 .left),
+      le-leb _ _ (c .before .before .if2 .left),
+      le-leb _ _ (c .before .if3 .left),
+      le-leb _ _ (c .if4 .left),
+      and-true,
+    )
 
 pub header-fits-spec : {M : Type 1} → statement M
 header-fits-spec =

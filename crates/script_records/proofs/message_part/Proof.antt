@@ -30,13 +30,21 @@ field-requires-2 c κs = search needs
 
 returns : tie.Need-returns
 returns c =
-    let a = c .before .before .before .before .before .before .before .args in
-    (sym (ap messagePart (deliver-at (a .s .now) (a .f) (a .at) refl refl (omega (arith, c .before .before .before .before .before .field8 .ensures)) (c .before .field .ensures) (c .field32 .ensures) refl)), search needs)
+    let a = c .before .before .before .before .before .before .before .args in (
+      sym (ap messagePart
+          (deliver-at (a .s .now) (a .f) (a .at) refl refl (omega (arith, c .before .before .before .before .before .field8 .ensures))
+          (c .before .field .ensures)
+          (c .field32 .ensures) refl)),
+      search needs,
+    )
 
 returns-2 : tie.Need-returns-2
 returns-2 c =
-    let a = c .before .before .before .before .before .before .args in
-    (sym (ap messagePart (ack-at (a .s .now) (a .f) (a .at) refl refl (omega (arith, c .before .before .before .before .field8 .ensures)) (c .field2 .ensures))), search needs)
+    let a = c .before .before .before .before .before .before .args in (
+      sym (ap messagePart
+          (ack-at (a .s .now) (a .f) (a .at) refl refl (omega (arith, c .before .before .before .before .field8 .ensures)) (c .field2 .ensures))),
+      search needs,
+    )
 
 returns-3 : tie.Need-returns-3
 returns-3 c =

@@ -50,7 +50,8 @@ returns c =
     let a = r .before .before .before .args in
     action-both (one (actionForm (a .f)) (drop (a .at) (a .script .now)) (a .at))
     (tells-at actionRead (actionForm (a .f)) (a .script .now) (a .at) (r .before .from .ensures)
-    (action-found (sym (c .before .before .before .before .before .x .given .1) ∙ r .action-part .ensures .0)) (sym (c .before .end .given .1) ∙ c .before .before .before .end-of .ensures) refl)
+    (action-found (sym (c .before .before .before .before .before .x .given .1) ∙ r .action-part .ensures .0))
+    (sym (c .before .end .given .1) ∙ c .before .before .before .end-of .ensures) refl)
 
 returns-2 : tie.Need-returns-2
 returns-2 c =
@@ -58,7 +59,8 @@ returns-2 c =
     let a = r .before .before .before .args in
     action-both (one (actionForm (a .f)) (drop (a .at) (a .script .now)) (a .at))
     (tells-not actionRead (actionForm (a .f)) (a .script .now) (a .at) (r .before .from .ensures)
-    (action-found (sym (c .before .before .before .before .x .given .1) ∙ r .action-part .ensures .0)) (sym (c .enum-told .given .1) ∙ c .before .before .end-of .ensures))
+    (action-found (sym (c .before .before .before .before .x .given .1) ∙ r .action-part .ensures .0))
+    (sym (c .enum-told .given .1) ∙ c .before .before .end-of .ensures))
 
 returns-3 : tie.Need-returns-3
 returns-3 c =
@@ -66,7 +68,8 @@ returns-3 c =
     let a = r .before .before .before .args in
     action-both (one (actionForm (a .f)) (drop (a .at) (a .script .now)) (a .at))
     (tells-at actionRead (actionForm (a .f)) (a .script .now) (a .at) (r .before .from .ensures)
-    (action-ended (sym (c .before .before .before .before .before .x2 .given .1) ∙ r .action-part .ensures .0)) (sym (c .before .end2 .given .1) ∙ c .before .before .before .end-of2 .ensures) refl)
+    (action-ended (sym (c .before .before .before .before .before .x2 .given .1) ∙ r .action-part .ensures .0))
+    (sym (c .before .end2 .given .1) ∙ c .before .before .before .end-of2 .ensures) refl)
 
 returns-4 : tie.Need-returns-4
 returns-4 c =
@@ -74,7 +77,8 @@ returns-4 c =
     let a = r .before .before .before .args in
     action-both (one (actionForm (a .f)) (drop (a .at) (a .script .now)) (a .at))
     (tells-not actionRead (actionForm (a .f)) (a .script .now) (a .at) (r .before .from .ensures)
-    (action-ended (sym (c .before .before .before .before .x2 .given .1) ∙ r .action-part .ensures .0)) (sym (c .enum-told2 .given .1) ∙ c .before .before .end-of2 .ensures))
+    (action-ended (sym (c .before .before .before .before .x2 .given .1) ∙ r .action-part .ensures .0))
+    (sym (c .enum-told2 .given .1) ∙ c .before .before .end-of2 .ensures))
 
 returns-5 : tie.Need-returns-5
 returns-5 c =

@@ -32,13 +32,15 @@ returns-2 : tie.Need-returns-2
 returns-2 c =
     let a = c .before .before .before .before .before .before .before .before .args in
     tells-at countRead (countForm (a .width) (a .most)) (a .script .now) (a .at) (c .before .before .before .before .before .before .from .ensures)
-    (count-at _ (a .width) (a .most) (c .before .before .before .before .before .field .ensures) (c .before .before .before .before .if1 .left)) (sym (c .before .end .given .1) ∙ c .before .before .before .end-of .ensures) refl
+    (count-at _ (a .width) (a .most) (c .before .before .before .before .before .field .ensures) (c .before .before .before .before .if1 .left))
+    (sym (c .before .end .given .1) ∙ c .before .before .before .end-of .ensures) refl
 
 returns-3 : tie.Need-returns-3
 returns-3 c =
     let a = c .before .before .before .before .before .before .before .args in
     tells-not countRead (countForm (a .width) (a .most)) (a .script .now) (a .at) (c .before .before .before .before .before .from .ensures)
-    (count-at _ (a .width) (a .most) (c .before .before .before .before .field .ensures) (c .before .before .before .if1 .left)) (sym (c .enum-told .given .1) ∙ c .before .before .end-of .ensures)
+    (count-at _ (a .width) (a .most) (c .before .before .before .before .field .ensures) (c .before .before .before .if1 .left))
+    (sym (c .enum-told .given .1) ∙ c .before .before .end-of .ensures)
 
 pub read-count-spec : {M : Type 1} → statement M
 read-count-spec =

@@ -38,7 +38,8 @@ returns c =
     let a = r .before .before .before .args in
     envelope-both (one (envelopeForm (a .f)) (drop (a .at) (a .script .now)) (a .at))
     (tells-at envelopeRead (envelopeForm (a .f)) (a .script .now) (a .at) (r .before .from .ensures)
-    (envelope-found (sym (c .before .before .before .before .before .x .given .1) ∙ r .envelope-part .ensures .0)) (sym (c .before .end .given .1) ∙ c .before .before .before .end-of .ensures) refl)
+    (envelope-found (sym (c .before .before .before .before .before .x .given .1) ∙ r .envelope-part .ensures .0))
+    (sym (c .before .end .given .1) ∙ c .before .before .before .end-of .ensures) refl)
 
 returns-2 : tie.Need-returns-2
 returns-2 c =
@@ -46,7 +47,8 @@ returns-2 c =
     let a = r .before .before .before .args in
     envelope-both (one (envelopeForm (a .f)) (drop (a .at) (a .script .now)) (a .at))
     (tells-not envelopeRead (envelopeForm (a .f)) (a .script .now) (a .at) (r .before .from .ensures)
-    (envelope-found (sym (c .before .before .before .before .x .given .1) ∙ r .envelope-part .ensures .0)) (sym (c .enum-told .given .1) ∙ c .before .before .end-of .ensures))
+    (envelope-found (sym (c .before .before .before .before .x .given .1) ∙ r .envelope-part .ensures .0))
+    (sym (c .enum-told .given .1) ∙ c .before .before .end-of .ensures))
 
 returns-3 : tie.Need-returns-3
 returns-3 c =

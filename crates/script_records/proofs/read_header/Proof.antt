@@ -34,7 +34,8 @@ returns c =
     let a = c .before .before .before .before .before .before .before .before .args in
     header-both (one (headerForm versions) (drop (a .at) (a .script .now)) (a .at))
     (tells-stuck headerRead (headerForm versions) (a .script .now) (a .at) (c .before .before .before .before .before .before .from .ensures)
-    (no-header _ versions (c .before .before .before .before .before .field8 .ensures) (c .before .before .before .before .field82 .ensures) (c .before .before .before .field83 .ensures) (c .before .before .field84 .ensures)
+    (no-header _ versions (c .before .before .before .before .before .field8 .ensures) (c .before .before .before .before .field82 .ensures)
+    (c .before .before .before .field83 .ensures) (c .before .before .field84 .ensures)
     (sym (c .before .header-fits .ensures) ∙ not-true _ (c .if1 .taken))))
 
 end-of-requires : tie.Need-end-of-requires
@@ -50,8 +51,11 @@ returns-2 : tie.Need-returns-2
 returns-2 c =
     let a = c .before .before .before .before .before .before .before .before .before .before .before .before .args in
     header-both (one (headerForm versions) (drop (a .at) (a .script .now)) (a .at))
-    (tells-at headerRead (headerForm versions) (a .script .now) (a .at) (c .before .before .before .before .before .before .before .before .before .before .from .ensures)
-    (header-at _ versions (c .before .before .before .before .before .before .before .before .before .field8 .ensures) (c .before .before .before .before .before .before .before .before .field82 .ensures) (c .before .before .before .before .before .before .before .field83 .ensures) (c .before .before .before .before .before .before .field84 .ensures)
+    (tells-at headerRead (headerForm versions) (a .script .now) (a .at)
+    (c .before .before .before .before .before .before .before .before .before .before .from .ensures)
+    (header-at _ versions (c .before .before .before .before .before .before .before .before .before .field8 .ensures)
+    (c .before .before .before .before .before .before .before .before .field82 .ensures)
+    (c .before .before .before .before .before .before .before .field83 .ensures) (c .before .before .before .before .before .before .field84 .ensures)
     (sym (c .before .before .before .before .before .header-fits .ensures) ∙ not-false _ (c .before .before .before .before .if1 .left)))
     (sym (c .before .end .given .1) ∙ c .before .before .before .end-of .ensures) refl)
 
@@ -59,8 +63,11 @@ returns-3 : tie.Need-returns-3
 returns-3 c =
     let a = c .before .before .before .before .before .before .before .before .before .before .before .args in
     header-both (one (headerForm versions) (drop (a .at) (a .script .now)) (a .at))
-    (tells-not headerRead (headerForm versions) (a .script .now) (a .at) (c .before .before .before .before .before .before .before .before .before .from .ensures)
-    (header-at _ versions (c .before .before .before .before .before .before .before .before .field8 .ensures) (c .before .before .before .before .before .before .before .field82 .ensures) (c .before .before .before .before .before .before .field83 .ensures) (c .before .before .before .before .before .field84 .ensures)
+    (tells-not headerRead (headerForm versions) (a .script .now) (a .at)
+    (c .before .before .before .before .before .before .before .before .before .from .ensures)
+    (header-at _ versions (c .before .before .before .before .before .before .before .before .field8 .ensures)
+    (c .before .before .before .before .before .before .before .field82 .ensures) (c .before .before .before .before .before .before .field83 .ensures)
+    (c .before .before .before .before .before .field84 .ensures)
     (sym (c .before .before .before .before .header-fits .ensures) ∙ not-false _ (c .before .before .before .if1 .left)))
     (sym (c .enum-told .given .1) ∙ c .before .before .end-of .ensures))
 

@@ -35,7 +35,8 @@ returns c =
     let a = r .before .before .args in
     rule-both (one (ruleForm (a .f)) (drop (a .at) (a .script .now)) (a .at))
     (c .bad-rule .ensures
-    ∙ tells-stuck ruleRead (ruleForm (a .f)) (a .script .now) (a .at) (r .from .ensures) (no-rule _ (a .f) (c .before .before .field8 .ensures) refl (c .before .if1 .taken)))
+    ∙ tells-stuck ruleRead (ruleForm (a .f)) (a .script .now) (a .at) (r .from .ensures)
+    (no-rule _ (a .f) (c .before .before .field8 .ensures) refl (c .before .if1 .taken)))
 
 add-commands-part : tie.Need-add-commands-part
 add-commands-part c = search needs
@@ -54,7 +55,8 @@ returns-2 c =
     rule-both (one (ruleForm (a .f)) (drop (a .at) (a .script .now)) (a .at))
     (c .bad-rule2 .ensures
     ∙ tells-stuck ruleRead (ruleForm (a .f)) (a .script .now) (a .at) (r .from .ensures)
-    (rule-stuck _ (a .f) (c .before .before .before .before .field8 .ensures) refl (c .before .before .before .if1 .left) (commands-stuck k (not-true _ (c .before .if2 .taken)))))
+    (rule-stuck _ (a .f) (c .before .before .before .before .field8 .ensures) refl (c .before .before .before .if1 .left)
+    (commands-stuck k (not-true _ (c .before .if2 .taken)))))
 
 end-of-requires : tie.Need-end-of-requires
 end-of-requires c κs = search needs
@@ -78,7 +80,9 @@ returns-3 c =
     let k = c .before .before .before .before .before .before .commands-part .ensures .0 in
     rule-both (one (ruleForm (a .f)) (drop (a .at) (a .script .now)) (a .at))
     (tells-at ruleRead (ruleForm (a .f)) (a .script .now) (a .at) (r .from .ensures)
-    (rule-at _ (a .f) (c .before .before .before .before .before .before .before .before .field8 .ensures) refl (c .before .before .before .before .before .before .before .if1 .left) (commands-found k (not-false _ (c .before .before .before .before .before .if2 .left))))
+    (rule-at _ (a .f) (c .before .before .before .before .before .before .before .before .field8 .ensures) refl
+    (c .before .before .before .before .before .before .before .if1 .left)
+    (commands-found k (not-false _ (c .before .before .before .before .before .if2 .left))))
     (sym (c .before .before .end .given .1) ∙ c .before .before .before .before .end-of .ensures) (rw (c .rule-of .ensures)))
 
 returns-4 : tie.Need-returns-4
@@ -89,7 +93,8 @@ returns-4 c =
     rule-both (one (ruleForm (a .f)) (drop (a .at) (a .script .now)) (a .at))
     (c .bad-rule3 .ensures
     ∙ tells-not ruleRead (ruleForm (a .f)) (a .script .now) (a .at) (r .from .ensures)
-    (rule-at _ (a .f) (c .before .before .before .before .before .before .before .field8 .ensures) refl (c .before .before .before .before .before .before .if1 .left) (commands-found k (not-false _ (c .before .before .before .before .if2 .left))))
+    (rule-at _ (a .f) (c .before .before .before .before .before .before .before .field8 .ensures) refl
+    (c .before .before .before .before .before .before .if1 .left) (commands-found k (not-false _ (c .before .before .before .before .if2 .left))))
     (sym (c .before .enum-told .given .1) ∙ c .before .before .before .end-of .ensures))
 
 pub read-rule-spec : {M : Type 1} → statement M

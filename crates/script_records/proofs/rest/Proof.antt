@@ -23,7 +23,8 @@ unfolding unread
 returns c =
     let a = c .before .before .before .before .args in
     c .from .ensures
-    ∙ ap (λ (n : ℕ). drop n (a .s .now)) (c .before .size-of .ensures ∙ ap actionSize (c .before .before .read-action .ensures .0) ∙ action-size (a .f) (a .s .now))
+    ∙ ap (λ (n : ℕ). drop n (a .s .now))
+    (c .before .size-of .ensures ∙ ap actionSize (c .before .before .read-action .ensures .0) ∙ action-size (a .f) (a .s .now))
 
 pub rest-spec : {M : Type 1} → statement M
 rest-spec = tie.close (tie.spec read-action-requires size-of-requires from-requires returns)

@@ -16,7 +16,8 @@ returns : tie.Need-returns
 returns c =
     let s = c .before .before .before in
     c .refused .ensures
-    ∙ deliver-absent (rulesOf (s .args .t)) (s .args .n) (s .args .a) (s .args .e) (s .args .s) (s .pre .5) (sym (c .before .before .is-done .ensures) ∙ not-true _ (c .before .if1 .taken))
+    ∙ deliver-absent (rulesOf (s .args .t)) (s .args .n) (s .args .a) (s .args .e) (s .args .s) (s .pre .5)
+    (sym (c .before .before .is-done .ensures) ∙ not-true _ (c .before .if1 .taken))
 
 on-msg-requires : tie.Need-on-msg-requires
 on-msg-requires c κs = search needs
@@ -31,18 +32,26 @@ returns-2 : tie.Need-returns-2
 returns-2 c =
     let s = c .before .before .before .before .before .before .before .before .before in
     c .refused2 .ensures
-    ∙ deliver-refused (rulesOf (s .args .t)) (s .args .n) (s .args .a) (s .args .e) (s .args .s) (s .pre .5) (c .before .before .before .on-msg .result) (c .before .before .before .on-msg .ensures (s .args .e .dst))
-    (sym (c .before .before .before .before .before .before .before .before .is-done .ensures) ∙ not-false _ (c .before .before .before .before .before .before .before .if1 .left)) (sym (c .before .before .is-done2 .ensures) ∙ not-true _ (c .before .if2 .taken))
+    ∙ deliver-refused (rulesOf (s .args .t)) (s .args .n) (s .args .a) (s .args .e) (s .args .s) (s .pre .5) (c .before .before .before .on-msg .result)
+    (c .before .before .before .on-msg .ensures (s .args .e .dst))
+    (sym (c .before .before .before .before .before .before .before .before .is-done .ensures)
+    ∙ not-false _ (c .before .before .before .before .before .before .before .if1 .left))
+    (sym (c .before .before .is-done2 .ensures) ∙ not-true _ (c .before .if2 .taken))
 
 finish-requires : tie.Need-finish-requires
 finish-requires c κs =
     let s = c .before .before .before .before .before .before .before .before .before in
     let rs = rulesOf (s .args .t) in (
-      deliver-ready-after rs (s .args .n) (s .args .a) (s .args .e) (s .args .s) (s .pre .5) (c .before .before .before .on-msg .result) (c .before .before .before .on-msg .ensures (s .args .e .dst))
-          (sym (c .before .before .before .before .before .before .before .before .is-done .ensures) ∙ not-false _ (c .before .before .before .before .before .before .before .if1 .left)) (s .pre .0),
+      deliver-ready-after rs (s .args .n) (s .args .a) (s .args .e) (s .args .s) (s .pre .5) (c .before .before .before .on-msg .result)
+          (c .before .before .before .on-msg .ensures (s .args .e .dst))
+          (sym (c .before .before .before .before .before .before .before .before .is-done .ensures)
+          ∙ not-false _ (c .before .before .before .before .before .before .before .if1 .left)) (s .pre .0),
       s .pre .1,
-      deliver-told rs (s .args .n) (s .args .a) (s .args .e) (s .args .s) (s .pre .5) (c .before .before .before .on-msg .result) (c .before .before .before .on-msg .ensures (s .args .e .dst))
-          (sym (c .before .before .before .before .before .before .before .before .is-done .ensures) ∙ not-false _ (c .before .before .before .before .before .before .before .if1 .left)) (sym (c .before .before .is-done2 .ensures) ∙ not-false _ (c .before .if2 .left)) .laid,
+      deliver-told rs (s .args .n) (s .args .a) (s .args .e) (s .args .s) (s .pre .5) (c .before .before .before .on-msg .result)
+          (c .before .before .before .on-msg .ensures (s .args .e .dst))
+          (sym (c .before .before .before .before .before .before .before .before .is-done .ensures)
+          ∙ not-false _ (c .before .before .before .before .before .before .before .if1 .left))
+          (sym (c .before .before .is-done2 .ensures) ∙ not-false _ (c .before .if2 .left)) .laid,
     )
 
 back-requires : tie.Need-back-requires
@@ -53,8 +62,12 @@ returns-3 c =
     let s = c .before .before .before .before .before .before .before .before .before .before .before in
     let rs = rulesOf (s .args .t) in
     c .back .ensures
-    ∙ deliver-goes rs (s .args .n) (s .args .a) (s .args .e) (s .args .s) (s .pre .5) (c .before .before .before .before .before .on-msg .result) (c .before .before .before .before .before .on-msg .ensures (s .args .e .dst))
-    (sym (c .before .before .before .before .before .before .before .before .before .before .is-done .ensures) ∙ not-false _ (c .before .before .before .before .before .before .before .before .before .if1 .left)) (s .pre .0) (sym (c .before .before .before .before .is-done2 .ensures) ∙ not-false _ (c .before .before .before .if2 .left)) (c .before .finish .result) (c .before .finish .ensures rs)
+    ∙ deliver-goes rs (s .args .n) (s .args .a) (s .args .e) (s .args .s) (s .pre .5) (c .before .before .before .before .before .on-msg .result)
+    (c .before .before .before .before .before .on-msg .ensures (s .args .e .dst))
+    (sym (c .before .before .before .before .before .before .before .before .before .before .is-done .ensures)
+    ∙ not-false _ (c .before .before .before .before .before .before .before .before .before .if1 .left)) (s .pre .0)
+    (sym (c .before .before .before .before .is-done2 .ensures) ∙ not-false _ (c .before .before .before .if2 .left)) (c .before .finish .result)
+    (c .before .finish .ensures rs)
 
 pub hand-over-spec : {M : Type 1} → statement M
 hand-over-spec =

@@ -18,7 +18,8 @@ refused-requires c κs = search needs
 returns : tie.Need-returns
 returns c =
     let s = c .before .before .before in
-    c .refused .ensures ∙ recover-live (rulesOf (s .args .t)) (s .args .i) (s .args .n) (s .args .a) (not-true _ (sym (c .before .before .is-live .ensures) ∙ c .before .if1 .taken))
+    c .refused .ensures ∙ recover-live (rulesOf (s .args .t)) (s .args .i) (s .args .n) (s .args .a)
+    (not-true _ (sym (c .before .before .is-live .ensures) ∙ c .before .if1 .taken))
 
 mark-requires : tie.Need-mark-requires
 mark-requires c κs = search needs
@@ -41,7 +42,8 @@ returns-2 c =
     let rs = rulesOf (s .args .t) in
     c .back .ensures
     ∙ ap (backTo (s .args .n) (s .args .a)) (c .before .wake .ensures)
-    ∙ recover-wakes rs (s .args .i) (s .args .n) (s .args .a) _ (c .before .before .mark .ensures) (not-false _ (sym (c .before .before .before .before .before .is-live .ensures) ∙ c .before .before .before .before .if1 .left))
+    ∙ recover-wakes rs (s .args .i) (s .args .n) (s .args .a) _ (c .before .before .mark .ensures)
+    (not-false _ (sym (c .before .before .before .before .before .is-live .ensures) ∙ c .before .before .before .before .if1 .left))
 
 pub recover-spec : {M : Type 1} → statement M
 recover-spec =

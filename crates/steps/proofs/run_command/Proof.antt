@@ -56,7 +56,8 @@ returns-2 c =
 returns-3 : tie.Need-returns-3
 returns-3 c =
     let s = c .before .before .before .before .before in
-    λ rs. rw (c .before .before .before .c3 .given .1) (send-touched rs (s .args .n) (s .args .a) (s .pre .0) (s .pre .1) (s .args .i) _ _ _ (c .before .post .ensures))
+    λ rs. rw (c .before .before .before .c3 .given .1)
+    (send-touched rs (s .args .n) (s .args .a) (s .pre .0) (s .pre .1) (s .args .i) _ _ _ (c .before .post .ensures))
 
 returns-4 : tie.Need-returns-4
 returns-4 c =

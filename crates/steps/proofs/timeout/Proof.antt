@@ -15,7 +15,8 @@ refused-requires c κs = search needs
 returns : tie.Need-returns
 returns c =
     let s = c .before .before .before in
-    c .refused .ensures ∙ timeout-unset (rulesOf (s .args .t)) (s .args .i) (s .args .timer) (s .args .n) (s .args .a) (sym (c .before .before .is-set .ensures) ∙ not-true _ (c .before .if1 .taken))
+    c .refused .ensures ∙ timeout-unset (rulesOf (s .args .t)) (s .args .i) (s .args .timer) (s .args .n) (s .args .a)
+    (sym (c .before .before .is-set .ensures) ∙ not-true _ (c .before .if1 .taken))
 
 on-timeout-requires : tie.Need-on-timeout-requires
 on-timeout-requires c κs = search needs
@@ -29,7 +30,11 @@ refused-requires-2 c κs = search needs
 returns-2 : tie.Need-returns-2
 returns-2 c =
     let s = c .before .before .before .before .before .before .before in
-    c .refused2 .ensures ∙ timeout-refused (rulesOf (s .args .t)) (s .args .i) (s .args .timer) (s .args .n) (s .args .a) (sym (c .before .before .before .before .before .before .is-set .ensures) ∙ not-false _ (c .before .before .before .before .before .if1 .left)) (c .before .before .before .on-timeout .result) (c .before .before .before .on-timeout .ensures (s .args .i)) (sym (c .before .before .is-done .ensures) ∙ not-true _ (c .before .if2 .taken))
+    c .refused2 .ensures
+    ∙ timeout-refused (rulesOf (s .args .t)) (s .args .i) (s .args .timer) (s .args .n) (s .args .a)
+    (sym (c .before .before .before .before .before .before .is-set .ensures) ∙ not-false _ (c .before .before .before .before .before .if1 .left))
+    (c .before .before .before .on-timeout .result) (c .before .before .before .on-timeout .ensures (s .args .i))
+    (sym (c .before .before .is-done .ensures) ∙ not-true _ (c .before .if2 .taken))
 
 renews-requires : tie.Need-renews-requires
 renews-requires c κs = search needs
@@ -41,7 +46,12 @@ returns-3 : tie.Need-returns-3
 returns-3 c =
     let s = c .before .before .before .before .before .before .before .before .before in
     c .refused3 .ensures
-    ∙ timeout-ignored (rulesOf (s .args .t)) (s .args .i) (s .args .timer) (s .args .n) (s .args .a) (sym (c .before .before .before .before .before .before .before .before .is-set .ensures) ∙ not-false _ (c .before .before .before .before .before .before .before .if1 .left)) (c .before .before .before .before .before .on-timeout .result) (c .before .before .before .before .before .on-timeout .ensures (s .args .i)) (sym (c .before .before .before .before .is-done .ensures) ∙ not-false _ (c .before .before .before .if2 .left)) (sym (c .before .before .renews .ensures) ∙ c .before .if3 .taken)
+    ∙ timeout-ignored (rulesOf (s .args .t)) (s .args .i) (s .args .timer) (s .args .n) (s .args .a)
+    (sym (c .before .before .before .before .before .before .before .before .is-set .ensures)
+    ∙ not-false _ (c .before .before .before .before .before .before .before .if1 .left)) (c .before .before .before .before .before .on-timeout .result)
+    (c .before .before .before .before .before .on-timeout .ensures (s .args .i))
+    (sym (c .before .before .before .before .is-done .ensures) ∙ not-false _ (c .before .before .before .if2 .left))
+    (sym (c .before .before .renews .ensures) ∙ c .before .if3 .taken)
 
 cancel-timer-requires : tie.Need-cancel-timer-requires
 cancel-timer-requires c κs = search needs
@@ -51,7 +61,11 @@ finish-requires c κs =
     let s = c .before .before .before .before .before .before .before .before .before in (
       s .pre .0,
       timers-laid (s .args .a) (s .args .timer) _ (s .pre .1) (c .cancel-timer .ensures),
-      timeout-told (rulesOf (s .args .t)) (s .args .i) (s .args .timer) (s .args .n) (s .args .a) (sym (c .before .before .before .before .before .before .before .before .is-set .ensures) ∙ not-false _ (c .before .before .before .before .before .before .before .if1 .left)) (c .before .before .before .before .before .on-timeout .result) (c .before .before .before .before .before .on-timeout .ensures (s .args .i)) (sym (c .before .before .before .before .is-done .ensures) ∙ not-false _ (c .before .before .before .if2 .left)) .laid,
+      timeout-told (rulesOf (s .args .t)) (s .args .i) (s .args .timer) (s .args .n) (s .args .a)
+          (sym (c .before .before .before .before .before .before .before .before .is-set .ensures)
+          ∙ not-false _ (c .before .before .before .before .before .before .before .if1 .left)) (c .before .before .before .before .before .on-timeout .result)
+          (c .before .before .before .before .before .on-timeout .ensures (s .args .i))
+          (sym (c .before .before .before .before .is-done .ensures) ∙ not-false _ (c .before .before .before .if2 .left)) .laid,
     )
 
 back-requires : tie.Need-back-requires
@@ -61,7 +75,13 @@ returns-4 : tie.Need-returns-4
 returns-4 c =
     let s = c .before .before .before .before .before .before .before .before .before .before .before in
     c .back .ensures
-    ∙ timeout-goes (rulesOf (s .args .t)) (s .args .i) (s .args .timer) (s .args .n) (s .args .a) (sym (c .before .before .before .before .before .before .before .before .before .before .is-set .ensures) ∙ not-false _ (c .before .before .before .before .before .before .before .before .before .if1 .left)) (c .before .before .before .before .before .before .before .on-timeout .result) (c .before .before .before .before .before .before .before .on-timeout .ensures (s .args .i)) (sym (c .before .before .before .before .before .before .is-done .ensures) ∙ not-false _ (c .before .before .before .before .before .if2 .left)) _ (c .before .before .cancel-timer .ensures) (sym (c .before .before .before .before .renews .ensures) ∙ c .before .before .before .if3 .left)
+    ∙ timeout-goes (rulesOf (s .args .t)) (s .args .i) (s .args .timer) (s .args .n) (s .args .a)
+    (sym (c .before .before .before .before .before .before .before .before .before .before .is-set .ensures)
+    ∙ not-false _ (c .before .before .before .before .before .before .before .before .before .if1 .left))
+    (c .before .before .before .before .before .before .before .on-timeout .result)
+    (c .before .before .before .before .before .before .before .on-timeout .ensures (s .args .i))
+    (sym (c .before .before .before .before .before .before .is-done .ensures) ∙ not-false _ (c .before .before .before .before .before .if2 .left)) _
+    (c .before .before .cancel-timer .ensures) (sym (c .before .before .before .before .renews .ensures) ∙ c .before .before .before .if3 .left)
     (c .before .finish .result) (c .before .finish .ensures (rulesOf (s .args .t)))
 
 pub timeout-spec : {M : Type 1} → statement M

@@ -19,17 +19,25 @@ refused-requires c κs = search needs
 returns : tie.Need-returns
 returns c =
     let s = c .before .before .before .before .before in
-    c .refused .ensures ∙ wake-refused (rulesOf (s .args .t)) (s .args .i) (s .args .n) (s .args .a) (startLink (s .args .a .stored)) (c .before .before .before .on-start .result) (c .before .before .before .on-start .ensures (s .args .i)) (sym (c .before .before .is-done .ensures) ∙ not-true _ (c .before .if1 .taken))
+    c .refused .ensures ∙ wake-refused (rulesOf (s .args .t)) (s .args .i) (s .args .n) (s .args .a) (startLink (s .args .a .stored))
+    (c .before .before .before .on-start .result) (c .before .before .before .on-start .ensures (s .args .i))
+    (sym (c .before .before .is-done .ensures) ∙ not-true _ (c .before .if1 .taken))
 
 finish-requires : tie.Need-finish-requires
 finish-requires c κs =
-    let s = c .before .before .before .before in
-    (s .pre .0, s .pre .1, wake-told (rulesOf (s .args .t)) (s .args .i) (s .args .n) (s .args .a) (startLink (s .args .a .stored)) (c .before .before .on-start .result) (c .before .before .on-start .ensures (s .args .i)) (sym (c .before .is-done .ensures) ∙ not-false _ (c .if1 .left)) .laid)
+    let s = c .before .before .before .before in (
+      s .pre .0,
+      s .pre .1,
+      wake-told (rulesOf (s .args .t)) (s .args .i) (s .args .n) (s .args .a) (startLink (s .args .a .stored)) (c .before .before .on-start .result)
+          (c .before .before .on-start .ensures (s .args .i)) (sym (c .before .is-done .ensures) ∙ not-false _ (c .if1 .left)) .laid,
+    )
 
 returns-2 : tie.Need-returns-2
 returns-2 c =
     let s = c .before .before .before .before .before in
-    c .finish .ensures (rulesOf (s .args .t)) ∙ wake-goes (rulesOf (s .args .t)) (s .args .i) (s .args .n) (s .args .a) (startLink (s .args .a .stored)) (c .before .before .before .on-start .result) (c .before .before .before .on-start .ensures (s .args .i)) (sym (c .before .before .is-done .ensures) ∙ not-false _ (c .before .if1 .left))
+    c .finish .ensures (rulesOf (s .args .t))
+    ∙ wake-goes (rulesOf (s .args .t)) (s .args .i) (s .args .n) (s .args .a) (startLink (s .args .a .stored)) (c .before .before .before .on-start .result)
+    (c .before .before .before .on-start .ensures (s .args .i)) (sym (c .before .before .is-done .ensures) ∙ not-false _ (c .before .if1 .left))
 
 pub wake-spec : {M : Type 1} → statement M
 wake-spec =

@@ -79,7 +79,8 @@ returns-6 c =
     refuses (systemFine s) (fine-tests s (system-says s _ (b .good .0)) ∙ rw (
       le-leb _ _ (c .before .before .before .before .before .before .before .before .before .if1 .left),
       le-leb _ _ (c .before .before .before .before .before .before .before .before .if2 .left),
-      sym (c .before .before .before .before .before .before .before .net-ok .ensures .0) ∙ not-false _ (c .before .before .before .before .before .before .if3 .left),
+      sym (c .before .before .before .before .before .before .before .net-ok .ensures .0)
+          ∙ not-false _ (c .before .before .before .before .before .before .if3 .left),
       sym (c .before .before .before .before .before .actors-ok .ensures) ∙ not-false _ (c .before .before .before .before .if4 .left),
       sym (c .before .before .before .tables-ok .ensures) ∙ not-false _ (c .before .before .if5 .left),
       sym (c .before .actors-blank .ensures) ∙ not-true _ (c .if6 .taken),
@@ -91,11 +92,13 @@ tables-blank-requires c κs = search needs
 returns-7 : tie.Need-returns-7
 unfolding every
 returns-7 c =
-    let b = c .before .before .before .before .before .before .before .before .before .before .before .before .before .before in let s = b .args .s in let y = system-says s _ (b .good .0) in
+    let b = c .before .before .before .before .before .before .before .before .before .before .before .before .before .before in let s = b .args .s in
+    let y = system-says s _ (b .good .0) in
     tells (systemFine s) (c .tables-blank .result) (fine-laid s y) (sym (fine-tests s y ∙ rw (
       le-leb _ _ (c .before .before .before .before .before .before .before .before .before .before .if1 .left),
       le-leb _ _ (c .before .before .before .before .before .before .before .before .before .if2 .left),
-      sym (c .before .before .before .before .before .before .before .before .net-ok .ensures .0) ∙ not-false _ (c .before .before .before .before .before .before .before .if3 .left),
+      sym (c .before .before .before .before .before .before .before .before .net-ok .ensures .0)
+          ∙ not-false _ (c .before .before .before .before .before .before .before .if3 .left),
       sym (c .before .before .before .before .before .before .actors-ok .ensures) ∙ not-false _ (c .before .before .before .before .before .if4 .left),
       sym (c .before .before .before .before .tables-ok .ensures) ∙ not-false _ (c .before .before .before .if5 .left),
       sym (c .before .before .actors-blank .ensures) ∙ not-false _ (c .before .if6 .left),

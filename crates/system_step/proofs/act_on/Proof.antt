@@ -28,7 +28,8 @@ mul-table c =
 
 array-copy-out-table : tie.Need-array-copy-out-table
 array-copy-out-table c =
-    let s = c .before .before .before .before .before in below (s .args .s) (s .pre) (s .args .a) _ (c .before .before .before .before .seat .ensures) no-actor no-table
+    let s = c .before .before .before .before .before in
+    below (s .args .s) (s .pre) (s .args .a) _ (c .before .before .before .before .seat .ensures) no-actor no-table
 
 act-requires : tie.Need-act-requires
 act-requires c κs =
@@ -44,7 +45,8 @@ returns : tie.Need-returns
 returns c =
     let s = c .before .before .before .before .before .before .before .before in
     c .put-back .ensures
-    ∙ act-done (s .args .s) (s .pre) (s .args .a) _ (c .before .before .before .before .before .before .before .seat .ensures) no-actor no-table (c .before .act .result) (c .before .act .ensures)
+    ∙ act-done (s .args .s) (s .pre) (s .args .a) _ (c .before .before .before .before .before .before .before .seat .ensures) no-actor no-table
+    (c .before .act .result) (c .before .act .ensures)
 
 pub act-on-spec : {M : Type 1} → statement M
 act-on-spec =

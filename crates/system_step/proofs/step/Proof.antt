@@ -24,7 +24,8 @@ act-on-requires c κs =
 returns-2 : tie.Need-returns-2
 returns-2 c =
     let s = c .before .before .before .args in
-    c .act-on .ensures ∙ sym (ap (answeredOf (s .s)) (passes (s .s) (s .a) (sym (c .before .before .well-formed .ensures .0) ∙ not-false _ (c .before .if1 .left))))
+    c .act-on .ensures ∙ sym
+    (ap (answeredOf (s .s)) (passes (s .s) (s .a) (sym (c .before .before .well-formed .ensures .0) ∙ not-false _ (c .before .if1 .left))))
 
 pub step-spec : {M : Type 1} → statement M
 step-spec = tie.close (tie.spec well-formed-requires returns act-on-requires returns-2)

@@ -27,7 +27,8 @@ slice-aggregate-same : tie.Need-slice-aggregate-same
 slice-aggregate-same c =
     let z = c .before .before .before in
     let s = z .before .before .before .before .before .args .script .now in
-    taken-size (replay base versions s) (z .before .before .large-buffer .result) _ (z .before .before .large-buffer .ensures) (z .replay .ensures .0) (c .before .if1 .left) (z .replay .ensures .1)
+    taken-size (replay base versions s) (z .before .before .large-buffer .result) _ (z .before .before .large-buffer .ensures) (z .replay .ensures .0)
+    (c .before .if1 .left) (z .replay .ensures .1)
 
 same-requires : tie.Need-same-requires
 same-requires c κs = search needs
@@ -35,7 +36,8 @@ same-requires c κs = search needs
 returns-2 : tie.Need-returns-2
 returns-2 c =
     let z = c .before .before .before .before in
-    compared _ _ (z .before .before .large-buffer .result) _ (z .before .before .large-buffer .ensures) (z .replay .ensures .0) (c .before .before .if1 .left) (z .replay .ensures .1) (c .same .ensures .0) (c .same .ensures .1)
+    compared _ _ (z .before .before .large-buffer .result) _ (z .before .before .large-buffer .ensures) (z .replay .ensures .0)
+    (c .before .before .if1 .left) (z .replay .ensures .1) (c .same .ensures .0) (c .same .ensures .1)
 
 pub agree-spec : {M : Type 1} → statement M
 agree-spec =

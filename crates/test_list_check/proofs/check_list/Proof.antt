@@ -19,7 +19,8 @@ module _ (list rest : List ℕ) (at size : ℕ) (r : rest ≡ drop at list) (s :
   room : at ≤ length list → at + size ≤ length list
   room h = omega (arith, pair-within rest, ap length r, length-drop at list)
 
-  turn : (t : Tally) {u : Tally} {b : Bool} → 0 < size → b ≡ right rest → u ≡ counted t b → tallied list ≡ walk 0 (drop at list) t → tallied list ≡ walk 0 (drop (at + size) list) u
+  turn : (t : Tally) {u : Tally} {b : Bool} → 0 < size → b ≡ right rest → u ≡ counted t b → tallied list ≡ walk 0 (drop at list) t
+      → tallied list ≡ walk 0 (drop (at + size) list) u
   turn t {u} {b} h p q e =
       let k : 0 < pairSize rest = omega arith in
       let w = walk-on rest t k in
@@ -55,7 +56,8 @@ returns : tie.Need-returns Inv-loop μ-loop
 returns c =
     let z = c .before .before .before in
     let i = z .before .before in
-    ended (i .before .before .args .list .now) (z .from .result .now) (i .loop .at) (c .before .before .pair .result) (z .from .ensures) (c .before .before .pair .ensures) (i .loop .t) (z .before .loop-test .taken) (c .before .if1 .taken) (c .count .ensures) (i .loop .inv .3)
+    ended (i .before .before .args .list .now) (z .from .result .now) (i .loop .at) (c .before .before .pair .result) (z .from .ensures)
+    (c .before .before .pair .ensures) (i .loop .t) (z .before .loop-test .taken) (c .before .if1 .taken) (c .count .ensures) (i .loop .inv .3)
 
 is-right-requires : tie.Need-is-right-requires Inv-loop μ-loop
 is-right-requires c κs = let s = c .before .pair .ensures in omega arith
@@ -67,14 +69,16 @@ add-at : tie.Need-add-at Inv-loop μ-loop
 add-at c =
     let p = c .before .before .before in
     let i = p .before .before .before in
-    let h = room (i .before .before .args .list .now) (p .before .from .result .now) (i .loop .at) (p .pair .result) (p .before .from .ensures) (p .pair .ensures) (i .loop .inv .0) in
+    let h = room (i .before .before .args .list .now) (p .before .from .result .now) (i .loop .at) (p .pair .result) (p .before .from .ensures)
+    (p .pair .ensures) (i .loop .inv .0) in
     omega arith
 
 loop-less : tie.Need-loop-less Inv-loop μ-loop
 loop-less c =
     let p = c .before .before .before in
     let i = p .before .before .before in
-    let h = room (i .before .before .args .list .now) (p .before .from .result .now) (i .loop .at) (p .pair .result) (p .before .from .ensures) (p .pair .ensures) (i .loop .inv .0) in
+    let h = room (i .before .before .args .list .now) (p .before .from .result .now) (i .loop .at) (p .pair .result) (p .before .from .ensures)
+    (p .pair .ensures) (i .loop .inv .0) in
     omega arith
 
 loop-again : tie.Need-loop-again Inv-loop μ-loop

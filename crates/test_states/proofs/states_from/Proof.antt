@@ -35,7 +35,8 @@ loop-less c =
     let r = x .before .before in
     let l = r .before .loop in
     let a = r .before .before .before .before .args in
-    let w = span (a .f) (a .script .now) (l .at) (x .x .given .0 .1 .0) (act-read (a .f) (a .script .now) (l .at) (sym (x .x .given .1) ∙ r .read-action .ensures .0)) in
+    let w = span (a .f) (a .script .now) (l .at) (x .x .given .0 .1 .0)
+    (act-read (a .f) (a .script .now) (l .at) (sym (x .x .given .1) ∙ r .read-action .ensures .0)) in
     omega (arith, w .0, w .1, w .2)
 
 loop-again : tie.Need-loop-again Inv-loop μ-loop
