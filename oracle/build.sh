@@ -1,7 +1,7 @@
 #!/usr/bin/env bash
 # Builds the oracle: copies the supplied Rust into target/oracle, compares the copies byte for byte with the originals and
 # with supplied.sha256, lays our stand-ins beside them and compiles. The argument is the folder of the supplied files.
-# Where PORT_ARCHIVE names the folder of libstates.a, the port is linked in, and the oracle has the command `agree`.
+# Where PORT_ARCHIVE names the folder of libtest_states.a, the port is linked in, and the oracle has the command `agree`.
 set -euo pipefail
 here=$(cd "$(dirname "$0")" && pwd)
 supplied=$(cd "${1:-$here/../../shared/docs/src}" && pwd)

@@ -9,14 +9,15 @@ kit=$(dirname "$(dirname "$(rt doc)")")
 own=$kit/on/$(uname -m)
 program=$copy/crates/test_fixed_list
 
-faults="link/ignored_marked_taken durable/next_not_saved link/untouched_by_state link/ack_left_out link/equal_number_handed
-durable/removed_by_destination steps/timer_not_cancelled steps/crash_keeps_timers act/absent_before_ignored network/count_not_raised"
+faults="link_handlers/ignored_marked_taken link_durable/next_not_saved link_handlers/untouched_by_state link_handlers/ack_left_out
+link_handlers/equal_number_handed link_durable/removed_by_destination steps/timer_not_cancelled steps/crash_keeps_timers
+act/absent_before_ignored net_network/count_not_raised"
 
 # Every library of the repository that the program needs goes in as source, so that a fault needs no proof. The kit's go in as they
 # were built: as source, libc's module `types` and our crate of that name would clash, which is why `rt try` cannot run this program.
 words() {
   printf '%s\n' --toolchain "$own/toolchain" --link "$kit/lib/libos_c.a" --stdout "$program/stdout"
-  printf '%s\n' --arg list.bin --data "list.bin=$program/data/list.bin" "$program/src/main.rt" --crate-name replay_list
+  printf '%s\n' --arg list.bin --data "list.bin=$program/data/list.bin" "$program/src/main.rt" --crate-name test_fixed_list
   for name in std check libc io os; do printf '%s\n' --extern "$name=$own/rlib/$name.rlib"; done
   printf '%s\n' -L "dependency=$own/rlib"
   for folder in "$copy"/crates/*/; do

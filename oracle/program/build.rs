@@ -4,7 +4,7 @@ fn main() {
     if std::env::var_os("CARGO_FEATURE_OURS").is_some() {
         let folder = std::env::var("PORT_ARCHIVE").expect("PORT_ARCHIVE names the archive's folder");
         println!("cargo:rustc-link-search=native={folder}");
-        println!("cargo:rustc-link-lib=static=states");
-        println!("cargo:rerun-if-changed={folder}/libstates.a");
+        println!("cargo:rustc-link-lib=static=test_states");
+        println!("cargo:rerun-if-changed={folder}/libtest_states.a");
     }
 }

@@ -1,5 +1,5 @@
 //! The port itself, linked in: its output for a script, and the whole system after each answer, in the oracle's words.
-//! The archive is made of the crate `states`, which is for this alone.
+//! The archive is made of the crate `test_states`, which is for this alone.
 use crate::generate::{generate, profile};
 use crate::drive::Run;
 use crate::image::Image;
