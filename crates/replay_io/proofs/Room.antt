@@ -1,4 +1,4 @@
--- Every output fits into the buffer for it: the run's by the bound of `playback`, and `bad PLACE` since the place lies in the script.
+-- Every output fits into the buffer for it: the run's by the bound of `replay_script`, and `bad PLACE` since the place lies in the script.
 -- Assumes nothing.
 use Prim.Native.Nat.{ℕ, zero, suc, _+_, _≤_, _<_}
 use native.Mathlib.Omega.{arith}
