@@ -497,7 +497,7 @@ fn action_part(s: &[u8], f: Format) -> ActionPart
     }
 }
 
-// One action, or end. Read at place 0 it is taken from the front of the script, and the place after it is its size.
+// One action, or end.
 pub fn read_action(script: &[u8], at: usize, f: Format) -> ActionRead
     requires { ⌜ Fine f ⌝ }
     ensures { λ r. ⌜ r ≡ actionRead (one (actionForm f) (drop at (now (script .entry))) at) ⌝ }
@@ -523,6 +523,15 @@ pub fn read_action(script: &[u8], at: usize, f: Format) -> ActionRead
     }
 }
 
+// One action, or end, from the front of a script of this version. The place after it is its size.
+pub fn take_action(s: &[u8], version: u8) -> ActionRead
+    ensures { λ r. ⌜ r ≡ actionRead (one (actionForm (formatOf versions version)) (now (s .entry)) 0) ⌝ }
+    ensures says { λ r. ⌜ actionSays r ≡ readingSays (one (actionForm (formatOf versions version)) (now (s .entry)) 0) ⌝ }
+{
+    let f = format_of(version);
+    read_action(s, 0, f)
+}
+
 // How many bytes were taken from the front; none of a bad record.
 fn size_of(x: ActionRead) -> usize
     ensures { λ r. ⌜ r ≡ actionSize x ⌝ }
@@ -535,11 +544,10 @@ fn size_of(x: ActionRead) -> usize
 }
 
 // The same script from the next record on; all of it where the record is bad.
-pub fn rest(s: &[u8], f: Format) -> &[u8]
-    requires { ⌜ Fine f ⌝ }
-    ensures { λ r. ⌜ now r ≡ unread f (now (s .entry)) ⌝ }
+pub fn rest(s: &[u8], version: u8) -> &[u8]
+    ensures { λ r. ⌜ now r ≡ unread (formatOf versions version) (now (s .entry)) ⌝ }
 {
-    let x = read_action(s, 0, f);
+    let x = take_action(s, version);
     let n = size_of(x);
     from(s, n)
 }
