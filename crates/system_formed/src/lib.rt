@@ -58,7 +58,7 @@ fn blank_table(t: Table) -> bool
     sound_table(t)
 }
 
-// A place for a table: without rules where it is free.
+// A place for a table: zero where it is free.
 fn table_passes(free: bool, t: Table) -> bool
     ensures { λ r. ⌜ r ≡ tablePasses free t ⌝ }
 {

@@ -1,4 +1,4 @@
--- The flag picks the test: a free place is tested for having no rules, a used one as a table.
+-- The flag picks the test: a free place is tested for zero, a used one as a table.
 use borrow.Author.Needs.{needs}
 use Rattle.lists.specs.Lists.{choose}
 use Rattle.system_formed.proofs.table_passes.Statement.{statement}

@@ -12,7 +12,6 @@ use Rattle.link_inner.specs.Views.{tableOk}
 use Rattle.sys_actor.specs.Views.{actorFine, blankActor}
 use Rattle.sys_actor.proofs.Laws.{refuses, tells}
 use Rattle.system.specs.declared.System.{System}
-use Rattle.system.specs.Views.{systemFine}
 use Rattle.system.proofs.Types.{SystemTyped, system-says}
 use Rattle.system.proofs.Laws.{fine-laid, fine-tests}
 use Rattle.system_formed.proofs.Passes.{actors-used, actors-free, tables-used, tables-free}
@@ -74,13 +73,13 @@ returns : tie.Need-returns
 unfolding every
 returns c =
     let b = c .before .before .before .before in
-    refuses (systemFine (b .args .s)) (fine-tests (b .args .s) (typed b) ∙ rw (lt-leb _ _ (c .if1 .taken)))
+    refuses _ (fine-tests _ (typed b) ∙ rw (lt-leb _ _ (c .if1 .taken)))
 
 returns-2 : tie.Need-returns-2
 unfolding every
 returns-2 c =
     let b = begun (c .before) in
-    refuses (systemFine (b .args .s)) (fine-tests (b .args .s) (typed b) ∙ rw (some (c .before), lt-leb _ _ (c .if2 .taken)))
+    refuses _ (fine-tests _ (typed b) ∙ rw (some (c .before), lt-leb _ _ (c .if2 .taken)))
 
 net-ok-requires : tie.Need-net-ok-requires
 net-ok-requires c κs = search needs
@@ -90,7 +89,7 @@ unfolding every
 returns-3 c =
     let d = c .before .before in let b = begun (d .before) in
     let e = sym (c .before .net-ok .ensures .0) ∙ not-true _ (c .if3 .taken) in
-    refuses (systemFine (b .args .s)) (fine-tests (b .args .s) (typed b) ∙ rw (some (d .before), few d, e))
+    refuses _ (fine-tests _ (typed b) ∙ rw (some (d .before), few d, e))
 
 actors-pass-requires : tie.Need-actors-pass-requires
 actors-pass-requires c κs = search needs
@@ -100,7 +99,7 @@ unfolding every
 returns-4 c =
     let f = c .before .before in let d = f .before .before in let b = begun (d .before) in
     let e = actors-tested (c .before) ∙ not-true _ (c .if4 .taken) in
-    refuses (systemFine (b .args .s)) (fine-tests (b .args .s) (typed b) ∙ rw (some (d .before), few d, net f, e))
+    refuses _ (fine-tests _ (typed b) ∙ rw (some (d .before), few d, net f, e))
 
 tables-pass-requires : tie.Need-tables-pass-requires
 tables-pass-requires c κs = search needs
@@ -110,7 +109,7 @@ unfolding every
 returns-5 c =
     let g = c .before .before in let f = g .before .before in let d = f .before .before in let b = begun (d .before) in
     let e = tables-tested (c .before) ∙ not-true _ (c .if5 .taken) in
-    refuses (systemFine (b .args .s)) (fine-tests (b .args .s) (typed b) ∙ rw (some (d .before), few d, net f, actors g, e))
+    refuses _ (fine-tests _ (typed b) ∙ rw (some (d .before), few d, net f, actors g, e))
 
 actors-pass-requires-2 : tie.Need-actors-pass-requires-2
 actors-pass-requires-2 c κs = search needs
@@ -120,7 +119,7 @@ unfolding every
 returns-6 c =
     let h = c .before .before in let g = h .before .before in let f = g .before .before in let d = f .before .before in let b = begun (d .before) in
     let e = free-tested (c .before) ∙ not-true _ (c .if6 .taken) in
-    refuses (systemFine (b .args .s)) (fine-tests (b .args .s) (typed b) ∙ rw (some (d .before), few d, net f, actors g, tables h, e))
+    refuses _ (fine-tests _ (typed b) ∙ rw (some (d .before), few d, net f, actors g, tables h, e))
 
 tables-pass-requires-2 : tie.Need-tables-pass-requires-2
 tables-pass-requires-2 c κs = search needs
@@ -131,7 +130,7 @@ returns-7 c =
     let k = c .before in let h = k .before .before in let g = h .before .before in let f = g .before .before in let d = f .before .before in
     let b = begun (d .before) in let s = b .args .s in let y = typed b in
     let e = tables-free (s .count) (s .tables) (y .tables) ∙ sym (c .tables-pass2 .ensures) in
-    tells (systemFine s) (c .tables-pass2 .result) (fine-laid s y)
+    tells _ _ (fine-laid s y)
     (sym (fine-tests s y ∙ rw (some (d .before), few d, net f, actors g, tables h, free k) (and-true _ ∙ e)))
 
 pub well-formed-spec : {M : Type 1} → statement M
