@@ -13,51 +13,34 @@ ghost use Prim.Native.Nat.{_≤_};
 ghost use lib.ListN.{take, drop};
 ghost use Rattle.types.specs.Capacities.{mostActors};
 ghost use Rattle.lists.specs.Lists.{all};
-ghost use Rattle.link_inner.specs.Views.{tableOk};
-ghost use Rattle.sys_actor.specs.Views.{actorFine, blankActor};
 ghost use Rattle.system.specs.Views.{SystemLaid, blankTable, systemFine};
+ghost use Rattle.system_formed.specs.Views.{actorPasses, tablePasses};
 
-// The actors in use.
-fn actors_ok(actors: [Actor; MOST_ACTORS], count: usize) -> bool
-    requires { ⌜ count ≤ mostActors ⌝ }
-    ensures { λ r. ⌜ r ≡ all (actorFine count) (take count actors) ⌝ }
+// A place for an actor: zero where it is free.
+fn actor_passes(free: bool, count: usize, a: Actor) -> bool
+    ensures { λ r. ⌜ r ≡ actorPasses free count a ⌝ }
 {
-    let mut i = 0;
-    while i < count {
-        let here = actors[i];
-        if !actor_ok(here, count) {
-            return false;
-        }
-        i += 1;
+    if free {
+        return blank_actor(a);
     }
-    true
+    actor_ok(a, count)
 }
 
-// Their tables. A start asks it too.
-pub fn tables_ok(tables: [Table; MOST_ACTORS], count: usize) -> bool
-    requires { ⌜ count ≤ mostActors ⌝ }
-    ensures { λ r. ⌜ r ≡ all tableOk (take count tables) ⌝ }
+// The places from one up to another: free, or used.
+fn actors_pass(
+    actors: [Actor; MOST_ACTORS],
+    free: bool,
+    count: usize,
+    from: usize,
+    to: usize,
+) -> bool
+    requires { ⌜ to ≤ mostActors ⌝ }
+    ensures { λ r. ⌜ r ≡ all (actorPasses free count) (drop from (take to actors)) ⌝ }
 {
-    let mut i = 0;
-    while i < count {
-        let here = tables[i];
-        if !sound_table(here) {
-            return false;
-        }
-        i += 1;
-    }
-    true
-}
-
-// The other actors.
-fn actors_blank(actors: [Actor; MOST_ACTORS], count: usize) -> bool
-    requires { ⌜ count ≤ mostActors ⌝ }
-    ensures { λ r. ⌜ r ≡ all blankActor (drop count actors) ⌝ }
-{
-    let mut i = count;
-    while i < MOST_ACTORS {
+    let mut i = from;
+    while i < to {
         let here = actors[i];
-        if !blank_actor(here) {
+        if !actor_passes(free, count, here) {
             return false;
         }
         i += 1;
@@ -75,15 +58,25 @@ fn blank_table(t: Table) -> bool
     sound_table(t)
 }
 
-// The other tables.
-fn tables_blank(tables: [Table; MOST_ACTORS], count: usize) -> bool
-    requires { ⌜ count ≤ mostActors ⌝ }
-    ensures { λ r. ⌜ r ≡ all blankTable (drop count tables) ⌝ }
+// A place for a table: zero where it is free.
+fn table_passes(free: bool, t: Table) -> bool
+    ensures { λ r. ⌜ r ≡ tablePasses free t ⌝ }
 {
-    let mut i = count;
-    while i < MOST_ACTORS {
+    if free {
+        return blank_table(t);
+    }
+    sound_table(t)
+}
+
+// The places from one up to another: free, or used. A start asks it too.
+pub fn tables_pass(tables: [Table; MOST_ACTORS], free: bool, from: usize, to: usize) -> bool
+    requires { ⌜ to ≤ mostActors ⌝ }
+    ensures { λ r. ⌜ r ≡ all (tablePasses free) (drop from (take to tables)) ⌝ }
+{
+    let mut i = from;
+    while i < to {
         let here = tables[i];
-        if !blank_table(here) {
+        if !table_passes(free, here) {
             return false;
         }
         i += 1;
@@ -109,14 +102,14 @@ pub fn well_formed(s: System) -> bool
     if !net_ok(network, count) {
         return false;
     }
-    if !actors_ok(actors, count) {
+    if !actors_pass(actors, false, count, 0, count) {
         return false;
     }
-    if !tables_ok(tables, count) {
+    if !tables_pass(tables, false, 0, count) {
         return false;
     }
-    if !actors_blank(actors, count) {
+    if !actors_pass(actors, true, count, count, MOST_ACTORS) {
         return false;
     }
-    tables_blank(tables, count)
+    tables_pass(tables, true, count, MOST_ACTORS)
 }

@@ -11,7 +11,7 @@ use sys_actor::Actor;
 use sys_actor::zero_actor;
 use system::System;
 use system::blank;
-use system_formed::tables_ok;
+use system_formed::tables_pass;
 use system_parts::Answered;
 use types::Envelope;
 use types::Id;
@@ -78,7 +78,7 @@ fn startable(kind: u8, count: usize, tables: [Table; MOST_ACTORS], given: Given)
     if 2 < kind {
         return false;
     }
-    if !tables_ok(tables, count) {
+    if !tables_pass(tables, false, 0, count) {
         return false;
     }
     let list = given.list;

@@ -2,13 +2,14 @@
 -- Assumes nothing.
 use mathlib.Core.Path.{_≡_, sym, ap, _∙_}
 use mathlib.Core.Bool.{and-true}
-use lib.ListN.{length}
+use lib.ListN.{length, take}
 use borrow.Author.Tests.{le-leb, lt-leb, not-true, not-false}
 use borrow.Author.Needs.{needs}
 use Rattle.types.specs.Capacities.{mostActors}
 use Rattle.lists.specs.Lists.{all, every}
 use Rattle.lists.proofs.Places.{length-mapped}
 use Rattle.rules.specs.WellFormed.{sourceKnown}
+use Rattle.system_formed.proofs.Passes.{tables-used}
 use Rattle.system_start.proofs.Tests.{fine-tests}
 use Rattle.system_start.proofs.startable.Statement.{statement}
 use Rattle.system_start.proofs.startable.Tie as tie
@@ -38,8 +39,8 @@ returns-3 c =
       lt-leb _ _ (c .if3 .taken),
     ))
 
-tables-ok-requires : tie.Need-tables-ok-requires
-tables-ok-requires c κs = search needs
+tables-pass-requires : tie.Need-tables-pass-requires
+tables-pass-requires c κs = search needs
 
 returns-4 : tie.Need-returns-4
 unfolding every
@@ -50,7 +51,7 @@ returns-4 c =
       le-leb _ _ (c .before .before .before .before .if1 .left),
       le-leb _ _ (c .before .before .before .if2 .left),
       le-leb _ _ (c .before .before .if3 .left),
-      sym (c .before .tables-ok .ensures) ∙ not-true _ (c .if4 .taken),
+      tables-used (take (a .count) (a .tables)) ∙ sym (c .before .tables-pass .ensures) ∙ not-true _ (c .if4 .taken),
     ))
 
 returns-5 : tie.Need-returns-5
@@ -63,7 +64,7 @@ returns-5 c =
       le-leb _ _ (b .before .before .before .before .if1 .left),
       le-leb _ _ (b .before .before .before .if2 .left),
       le-leb _ _ (b .before .before .if3 .left),
-      sym (b .before .tables-ok .ensures) ∙ not-false _ (b .if4 .left),
+      tables-used (take (a .count) (a .tables)) ∙ sym (b .before .tables-pass .ensures) ∙ not-false _ (b .if4 .left),
       lt-leb _ _ (c .if5 .taken),
     ))
 
@@ -82,7 +83,7 @@ returns-6 c =
       le-leb _ _ (b .before .before .before .before .if1 .left),
       le-leb _ _ (b .before .before .before .if2 .left),
       le-leb _ _ (b .before .before .if3 .left),
-      sym (b .before .tables-ok .ensures) ∙ not-false _ (b .if4 .left),
+      tables-used (take (a .count) (a .tables)) ∙ sym (b .before .tables-pass .ensures) ∙ not-false _ (b .if4 .left),
       le-leb _ _ (d .if5 .left),
     ) (and-true _))
 
@@ -93,7 +94,7 @@ startable-spec =
     returns
     returns-2
     returns-3
-    tables-ok-requires
+    tables-pass-requires
     returns-4
     returns-5
     sources-known-requires
