@@ -1,3 +1,4 @@
+-- Each action is one of the five functions below it.
 use borrow.Author.Needs.{needs}
 use Rattle.act.proofs.act.Statement.{statement}
 use Rattle.act.proofs.act.Tie as tie

@@ -1,3 +1,4 @@
+-- The actor of an action is the one that it names: for a Deliver and a Drop the destination.
 use Rattle.parts.specs.Parts.{target}
 use borrow.Author.Needs.{needs}
 use Rattle.act.proofs.actor_of.Statement.{statement}

@@ -1,3 +1,4 @@
+-- An actor that is not there is refused; else the crash is the one of steps.
 use Rattle.link_inner.specs.Views.{rulesOf}
 use Rattle.act.proofs.Laws.{stops, goes, crashed}
 use Rattle.answers.specs.Answers.{answerOf}

@@ -1,3 +1,4 @@
+-- The three tests are made before anything else, and the first that fails in the order of the answers is the one that is told.
 use Prim.Native.Nat.{_<_}
 use native.Mathlib.Omega.{arith}
 use mathlib.Core.Path.{_≡_, sym, ap, _∙_}

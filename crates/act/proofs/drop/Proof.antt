@@ -1,3 +1,4 @@
+-- A Drop touches the network alone, so the actor is handed back as it came.
 use Rattle.act.proofs.Laws.{stops, goes, dropped}
 use Rattle.answers.specs.Answers.{answerOf}
 use Rattle.parts.specs.Parts.{actPart}

@@ -1,3 +1,4 @@
+-- An actor hears if it is there and not crashed.
 use lib.Dec.{ltb}
 use mathlib.Core.Path.{_∙_}
 use Rattle.act.proofs.Laws.{deaf, alive}

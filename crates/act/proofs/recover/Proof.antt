@@ -1,3 +1,4 @@
+-- An actor that is not there is refused; else the recovery is the one of steps.
 use Rattle.act.proofs.Laws.{stops, goes}
 use Rattle.answers.specs.Answers.{answerOf}
 use Rattle.parts.specs.Parts.{actPart}

@@ -1,3 +1,4 @@
+-- A seat beyond the count is taken as the first, since nothing there is touched.
 use mathlib.Core.Path.{sym, _∙_}
 use Rattle.act.proofs.Laws.{seat-known, seat-none}
 use borrow.Author.Needs.{needs}

@@ -1,3 +1,4 @@
+-- An actor that is not there or a timer above Network is refused; else the timeout is the one of steps.
 use lib.Dec.{ltb}
 use Rattle.lists.proofs.Members.{no-and}
 use Rattle.act.proofs.Laws.{stops, goes, late, and-both}

@@ -1,3 +1,4 @@
+-- A test that passes refuses nothing.
 use Rattle.lists.specs.Lists.{choose}
 use Rattle.answers.proofs.refused_unless.Statement.{statement}
 use Rattle.answers.proofs.refused_unless.Tie as tie

@@ -1,3 +1,4 @@
+-- A number with a digit less is a tenth of it, so the loop counts its digits.
 use borrow.Author.Needs.{needs}
 use native.Mathlib.Omega.{arith}
 use Prim.Native.Nat.{_+_, _≤_}

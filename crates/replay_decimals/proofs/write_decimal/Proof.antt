@@ -1,3 +1,4 @@
+-- Each turn writes the last digit that is left, from the back.
 use borrow.Author.Needs.{needs}
 use native.Mathlib.Omega.{arith}
 use Prim.Native.Nat.{ℕ, _+_, _-_, _%_, _≤_}

@@ -1,4 +1,4 @@
--- `replay_input::judged` meets its contract.
+-- A count below 0 is a failure, 0 is the end, and anything else is what was read.
 -- Assumes nothing.
 use borrow.Author.Needs.{needs}
 use Rattle.replay_input.proofs.Laws.{is-failed, is-ended, is-more}

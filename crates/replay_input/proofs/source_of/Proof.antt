@@ -1,4 +1,4 @@
--- `replay_input::source_of` meets its contract.
+-- The number of arguments alone decides.
 -- Assumes nothing.
 use Rattle.replay_input.specs.Views.{sourceOf}
 use Rattle.replay_input.proofs.Laws.{is-input, is-wrong}

@@ -1,3 +1,4 @@
+-- An answer is 0, 1 or another number, and each has its own total.
 use Rattle.replay_run.proofs.Laws.{tallied-none, tallied-one, tallied-more}
 use borrow.Author.Needs.{needs}
 use Rattle.replay_run.proofs.count_answer.Statement.{statement}

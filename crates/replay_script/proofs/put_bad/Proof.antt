@@ -1,3 +1,4 @@
+-- The line is measured first, and is written only where it fits.
 use Rattle.replay_script.proofs.Laws.{told-after, told-none}
 use mathlib.Core.Bool.{false≢true}
 use lib.Dec.{lit≤}

@@ -1,4 +1,4 @@
--- `unreadable` meets its contract.
+-- The system that it holds is the blank one.
 -- Assumes nothing.
 use Rattle.answers.specs.Answers.{answerOf}
 use borrow.Author.Needs.{needs}

@@ -1,3 +1,4 @@
+-- Each turn takes what is left of a byte. A field is its first bits times a power of 2, plus its last bits.
 use borrow.Author.Needs.{needs}
 use native.Mathlib.Omega.{arith}
 use Prim.Native.Nat.{_+_, _*_, _≤_, _-_}

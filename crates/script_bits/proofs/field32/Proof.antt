@@ -1,3 +1,4 @@
+-- A field of at most 32 bits fits the number.
 use native.Mathlib.Omega.{arith}
 use Rattle.layout.proofs.Laws.{field-below}
 use borrow.Author.Needs.{needs}

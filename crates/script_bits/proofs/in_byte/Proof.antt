@@ -1,3 +1,4 @@
+-- Within a byte a field is the byte shifted down, and cut to its width. Past the end every bit is 0.
 use native.Mathlib.Omega.{arith}
 use Prim.Native.Nat.{_/_, _%_, _-_}
 use mathlib.Core.Path.{sym}

@@ -1,3 +1,4 @@
+-- A shift by k bits is a power of 2.
 use native.Mathlib.Omega.{arith}
 use native.Mathlib.Nat.{one-mul}
 use mathlib.Core.Path.{_∙_}

@@ -1,3 +1,4 @@
+-- The bytes that the bits take are there, and what pads the last of them is a field that is 0.
 use borrow.Author.Tests.{le-leb, lt-leb}
 use Rattle.layout.specs.Form.{wholeOf}
 use borrow.Author.Needs.{needs}

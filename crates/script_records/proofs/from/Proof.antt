@@ -1,3 +1,4 @@
+-- A part up to the end is what is left after the place; past the end nothing is left.
 use native.Mathlib.Omega.{arith}
 use Rattle.script_records.proofs.Laws.{tail, tail-past}
 use borrow.Author.Needs.{needs}

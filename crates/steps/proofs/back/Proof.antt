@@ -1,3 +1,4 @@
+-- A refusal hands back what came.
 use mathlib.Core.Path.{sym, _∙_}
 use Rattle.lists.specs.Lists.{choose}
 use borrow.Author.Needs.{needs}

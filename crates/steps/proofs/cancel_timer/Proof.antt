@@ -1,3 +1,4 @@
+-- The set of the actor changes, and nothing else of it.
 use borrow.Author.Needs.{needs}
 use Rattle.steps.proofs.cancel_timer.Statement.{statement}
 use Rattle.steps.proofs.cancel_timer.Tie as tie

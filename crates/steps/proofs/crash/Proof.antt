@@ -1,3 +1,4 @@
+-- A crash clears the timers and sets the mark. The link and what is stored stay.
 use mathlib.Core.Path.{ap, _∙_}
 use mathlib.Core.Bool.{true}
 use Rattle.steps.proofs.Actions.{markIn, crashed}

@@ -1,3 +1,4 @@
+-- The link that the handler left is put in place before its commands run.
 use mathlib.Core.Path.{ap, _∙_}
 use Rattle.steps.specs.Views.{backTo}
 use Rattle.steps.proofs.Laws.{linked, finished}

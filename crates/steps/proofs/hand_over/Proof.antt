@@ -1,3 +1,4 @@
+-- The envelope is gone from the network before the handler's commands run; a refusal of either hands back what came.
 use borrow.Author.Tests.{not-true, not-false}
 use mathlib.Core.Path.{sym, _∙_}
 use Rattle.link_inner.specs.Views.{rulesOf}

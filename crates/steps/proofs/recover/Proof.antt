@@ -1,3 +1,4 @@
+-- A live actor is refused. Else the mark is cleared and the actor starts on what is stored.
 use borrow.Author.Tests.{not-true, not-false}
 use mathlib.Core.Path.{sym, ap, _∙_}
 use mathlib.Core.Bool.{false}

@@ -1,3 +1,4 @@
+-- An untouched link and one command that sets this very timer: both are tested.
 use borrow.Author.Needs.{needs}
 use Rattle.steps.proofs.renews.Statement.{statement}
 use Rattle.steps.proofs.renews.Tie as tie

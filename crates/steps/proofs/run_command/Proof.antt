@@ -1,3 +1,4 @@
+-- Each command changes one part: the network, the timers or what is stored.
 use mathlib.Core.Path.{ap, _∙_}
 use Rattle.steps.proofs.Laws.{doneWith, set-touched, cancel-touched, send-touched, save-touched}
 use borrow.Author.Needs.{needs}

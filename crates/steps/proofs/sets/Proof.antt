@@ -1,3 +1,4 @@
+-- A command is compared with the one that sets the timer.
 use Rattle.rules.specs.System.{onlySets}
 use Rattle.link_output.specs.Views.{commandView}
 use borrow.Author.Needs.{needs}

@@ -1,3 +1,4 @@
+-- The timer is cancelled before the handler runs. What renews it alone and touches nothing is ignored.
 use borrow.Author.Tests.{not-true, not-false}
 use mathlib.Core.Path.{sym, _∙_}
 use Rattle.link_inner.specs.Views.{rulesOf}

@@ -1,3 +1,4 @@
+-- The handler of a start gets what is stored; its commands then run.
 use borrow.Author.Tests.{not-true, not-false}
 use mathlib.Core.Path.{sym, _∙_}
 use Rattle.link_inner.specs.Views.{rulesOf}

@@ -1,4 +1,4 @@
--- `is_quiet` meets its contract.
+-- A live actor passes; a crashed one passes where no timer is set.
 -- Assumes nothing.
 use mathlib.Core.Path.{ap}
 use mathlib.Core.Bool.{not, _||_}

@@ -1,4 +1,4 @@
--- `zero_actor` meets its contract.
+-- Each of its parts is the zero one.
 -- Assumes nothing.
 use borrow.Author.Needs.{needs}
 use Rattle.sys_actor.proofs.zero_actor.Statement.{statement}

@@ -1,3 +1,4 @@
+-- Only the network and one seat are touched, and they are put back.
 use native.Mathlib.Omega.{arith}
 use mathlib.Core.Path.{_∙_}
 use Rattle.system_formed.proofs.Outside.{no-actor, no-table}

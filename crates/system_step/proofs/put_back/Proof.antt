@@ -1,3 +1,4 @@
+-- A refusal hands back the system as it came; else the two parts are written into it.
 use mathlib.Core.Path.{sym, _∙_}
 use borrow.Author.Tests.{not-true, not-false}
 use Rattle.lists.specs.Lists.{choose}

@@ -1,3 +1,4 @@
+-- A system that fails the test is refused as 9. One that passes is laid out, so its parts are those of the rules.
 use mathlib.Core.Path.{sym, ap, _∙_}
 use borrow.Author.Tests.{not-true, not-false}
 use Rattle.answers.specs.Answers.{answerOf}
