@@ -1,0 +1,53 @@
+use native.Mathlib.Omega.{arith}
+use Prim.Native.Nat.{_-_}
+use lib.ListN.{getD}
+use mathlib.Core.Path.{refl}
+use Rattle.link_rows.proofs.Laws.{acked-none, acked-one, count-set, low-one}
+use borrow.Author.Needs.{needs}
+use Rattle.link_rows.proofs.drop_acked.Statement.{statement}
+use Rattle.link_rows.proofs.drop_acked.Tie as tie
+
+slice-read-n : tie.Need-slice-read-n
+slice-read-n c = search needs
+
+pending-place-requires : tie.Need-pending-place-requires
+pending-place-requires c κs = search needs
+
+same-length : tie.Need-same-length
+same-length c = search needs
+
+returns : tie.Need-returns
+returns c = let s = c .before .before .before .before .before in let w = c .before .pending-place in (acked-none (s .args .live .now) (s .args .pend .now) (s .args .number) (s .pre .0) (s .pre .1) (w .result) (w .ensures) (c .if1 .taken), omega arith, refl)
+
+remove-at-requires : tie.Need-remove-at-requires
+remove-at-requires c κs = search needs
+
+sub-live : tie.Need-sub-live
+sub-live c = search needs
+
+slice-write-live : tie.Need-slice-write-live
+slice-write-live c = search needs
+
+same-length-2 : tie.Need-same-length-2
+same-length-2 c = search needs
+
+same-length-3 : tie.Need-same-length-3
+same-length-3 c = search needs
+
+returns-2 : tie.Need-returns-2
+returns-2 c = let s = c .before .before .before .before .before .before .before .before in let w = c .before .before .before .before .pending-place in (acked-one (s .args .live .now) (s .args .pend .now) (s .args .number) (s .pre .0) (s .pre .1) (w .result) (w .ensures) (c .before .before .before .if1 .left) (c .before .remove-at .last .0) (c .before .remove-at .ensures), omega (arith, count-set (s .args .live .now) (getD (s .args .live .now) 1 0 - 1) (s .pre .0)), low-one (s .args .live .now) 1 _ (omega arith))
+
+pub drop-acked-spec : {M : Type 1} → statement M
+drop-acked-spec =
+    tie.close
+    (tie.spec
+    slice-read-n
+    pending-place-requires
+    same-length
+    returns
+    remove-at-requires
+    sub-live
+    slice-write-live
+    same-length-2
+    same-length-3
+    returns-2)

@@ -1,0 +1,58 @@
+-- Rows match as their rules do.
+-- Assumes nothing.
+use Prim.Native.Nat.{ℕ, _+_, _*_, _/_, _%_, _≤_, _<_}
+use native.Mathlib.Omega.{arith}
+use native.Mathlib.Decide.{ℕ-discrete}
+use mathlib.Core.Path.{_≡_, refl, sym, ap, ap₂, _∙_}
+use mathlib.Core.Bool.{Bool, true, false, not, _&&_}
+use mathlib.Core.List.{List, [], _∷_, map}
+use lib.ListN.{length, take, getD, length-map}
+use lib.Seq.{getD-take, length-take-le}
+use lib.Dec.{leb, eqb}
+use borrow.Author.Tests.{eq-eqb, ne-eqb, eqb-true, le-leb, lt-leb}
+use Rattle.lists.specs.Lists.{lead}
+use Rattle.lists.proofs.Places.{lead-is}
+use Rattle.types.specs.declared.Rule.{Rule}
+use Rattle.rules.specs.Inner.{matches}
+use Rattle.net_cells.proofs.Laws.{lead-cells}
+use Rattle.lists.proofs.Sorted.{All}
+use Rattle.link_tables.specs.Rows.{ruleIn}
+
+-- Event and state in one number.
+key-same : (h e s : ℕ) → s < 16 → eqb h (e * 16 + s) ≡ (eqb e (h / 16) && eqb s (h % 16))
+key-same h e s l = go (ℕ-discrete h (e * 16 + s))
+  where
+    other : (h ≡ e * 16 + s → ⊥) → (b : Bool) → eqb e (h / 16) ≡ b → false ≡ (b && eqb s (h % 16))
+    other n true q = let z = eqb-true e (h / 16) q in sym (ne-eqb s (h % 16) (λ w. n (omega arith)))
+    other n false q = refl
+
+    go : Dec (h ≡ e * 16 + s) → eqb h (e * 16 + s) ≡ (eqb e (h / 16) && eqb s (h % 16))
+    go (yes p) = let a : e ≡ h / 16 = omega arith in let b : s ≡ h % 16 = omega arith in eq-eqb h (e * 16 + s) p ∙ rw (eq-eqb e (h / 16) a, eq-eqb s (h % 16) b)
+    go (no n) = ne-eqb h (e * 16 + s) n ∙ other n (eqb e (h / 16)) refl
+
+abbrev pub hit : ℕ → ℕ → List ℕ → Bool
+hit key value r = eqb (getD r 0 0) key && leb (getD r 1 0) value && leb value (getD r 2 0)
+
+pub hit-is : (event state value : ℕ) (r : List ℕ) → state < 16 → hit (event * 16 + state) value r ≡ matches event state value (ruleIn r)
+unfolding matches ruleIn
+hit-is event state value r h = rw (key-same (getD r 0 0) event state h)
+
+trivial : (l : List (List ℕ)) → All (λ x. Unit {0}) l
+trivial [] = tt
+trivial (x ∷ l) = (tt, trivial l)
+
+-- The place that the code finds.
+pub found-at : (event state value : ℕ) (c : List (List ℕ)) (used r : ℕ) → state < 16 → r ≡ lead (λ x. not (hit (event * 16 + state) value x)) (take used c) → r ≡ lead (λ x. not (matches event state value x)) (map ruleIn (take used c))
+found-at event state value c used r h p =
+    p ∙ sym (lead-cells ruleIn (λ x. Unit {0}) (λ x. not (matches event state value x)) (λ x. not (hit (event * 16 + state) value x)) (λ x _. ap not (sym (hit-is event state value x h))) (take used c) (trivial (take used c)))
+
+-- ---- the test, as the code makes it
+module _ (head low high key value : ℕ) where
+  pub other-head : (head ≡ key → ⊥) → false ≡ (eqb head key && leb low value && leb value high)
+  other-head n = rw (ne-eqb head key n)
+
+  pub too-low : head ≡ key → value < low → false ≡ (eqb head key && leb low value && leb value high)
+  too-low e h = rw (eq-eqb head key e, lt-leb low value h)
+
+  pub by-high : head ≡ key → low ≤ value → leb value high ≡ (eqb head key && leb low value && leb value high)
+  by-high e h = rw (eq-eqb head key e, le-leb low value h)

@@ -1,0 +1,207 @@
+-- Laws of cells: they are told apart and ordered as their entries are, and each is read back.
+-- Assumes nothing.
+use Prim.Native.Nat.{ℕ, zero, suc, _+_, _*_, _/_, _%_, _≤_, _<_}
+use native.Mathlib.Nat.{mod-lt, zero-lt-suc}
+use native.Mathlib.Omega.{arith}
+use mathlib.Core.Path.{_≡_, refl, sym, ap, ap₂, _∙_, subst}
+use mathlib.Core.Bool.{Bool, true, false, not}
+use mathlib.Core.List.{List, [], _∷_, map}
+use lib.ListN.{length, getD}
+use lib.Dec.{ltb, leb, eqb}
+use borrow.Author.Tests.{lt-ltb, le-ltb, ltb-true, ltb-false, le-leb, lt-leb, eq-eqb, ne-eqb}
+use Rattle.lists.specs.Lists.{chain, lead}
+use Rattle.lists.proofs.Sorted.{All}
+use Rattle.types.specs.declared.Message.{Message}
+use Rattle.types.specs.declared.Message.the-variants.{Deliver, Ack}
+use Rattle.types.specs.declared.Envelope.{Envelope}
+use Rattle.types.specs.declared.Number.{Number}
+use Rattle.types.specs.declared.Payload.{Payload}
+use Rattle.rules.specs.Network.{single}
+use Rattle.types.specs.declared.Entry.{Entry}
+use Rattle.types.specs.declared.Order.{Order}
+use Rattle.types.specs.declared.Order.the-variants.{Less, Equal, Greater}
+use Rattle.types.specs.Order.{cmpN, pickO, andThen, tagOf, numberOf, payloadOf, cmpEnvelope, cmpFlow, isLess, isEqual, same}
+use Rattle.types.proofs.Laws.{andThen-assoc, andThen-equal}
+use Rattle.net_cells.specs.Cells.{headWith, cellOf, messageOf, entryOf, cmpCell, flowOf}
+
+-- ---- two numbers
+abbrev Says : ℕ → ℕ → Order → Type 0
+Says a b Less = a < b
+Says a b Equal = a ≡ b
+Says a b Greater = b < a
+
+says : (a b : ℕ) → Says a b (cmpN a b)
+says a b = go (ltb a b) (ltb b a) refl refl
+  where
+    go : (s t : Bool) → ltb a b ≡ s → ltb b a ≡ t → Says a b (pickO s Less (pickO t Greater Equal))
+    go true t e f = ltb-true a b e
+    go false true e f = ltb-true b a f
+    go false false e f = omega (arith, ltb-false a b e, ltb-false b a f)
+
+by : (a b : ℕ) (o : Order) → cmpN a b ≡ o → Says a b o
+by a b o e = subst (Says a b) e (says a b)
+
+pub less : (a b : ℕ) → a < b → cmpN a b ≡ Less
+less a b h = simp (lt-ltb a b h)
+
+pub equal : (a b : ℕ) → a ≡ b → cmpN a b ≡ Equal
+equal a b h = simp (le-ltb a b (omega arith), le-ltb b a (omega arith))
+
+pub greater : (a b : ℕ) → b < a → cmpN a b ≡ Greater
+greater a b h = simp (le-ltb a b (omega arith), lt-ltb b a h)
+
+-- ---- the order
+module _ (s d t s' d' t' : ℕ) (hd : d < 256) (ht : t < 2) (hd' : d' < 256) (ht' : t' < 2) where
+  pub head-order : cmpN (headWith s d t) (headWith s' d' t') ≡ andThen (cmpN s s') (andThen (cmpN d d') (cmpN t t'))
+  head-order = go (cmpN s s') refl (cmpN d d') refl (cmpN t t') refl
+    where
+      go : (o : Order) → cmpN s s' ≡ o → (p : Order) → cmpN d d' ≡ p → (q : Order) → cmpN t t' ≡ q → cmpN (headWith s d t) (headWith s' d' t') ≡ andThen o (andThen p q)
+      go Less e p f q g = less (headWith s d t) (headWith s' d' t') (omega (arith, by s s' Less e))
+      go Greater e p f q g = greater (headWith s d t) (headWith s' d' t') (omega (arith, by s s' Greater e))
+      go Equal e Less f q g = less (headWith s d t) (headWith s' d' t') (omega (arith, by s s' Equal e, by d d' Less f))
+      go Equal e Greater f q g = greater (headWith s d t) (headWith s' d' t') (omega (arith, by s s' Equal e, by d d' Greater f))
+      go Equal e Equal f Less g = less (headWith s d t) (headWith s' d' t') (omega (arith, by s s' Equal e, by d d' Equal f, by t t' Less g))
+      go Equal e Equal f Greater g = greater (headWith s d t) (headWith s' d' t') (omega (arith, by s s' Equal e, by d d' Equal f, by t t' Greater g))
+      go Equal e Equal f Equal g = equal (headWith s d t) (headWith s' d' t') (omega (arith, by s s' Equal e, by d d' Equal f, by t t' Equal g))
+
+tag-few : (m : Message) → tagOf m < 2
+tag-few (Deliver n p) = omega arith
+tag-few (Ack n) = omega arith
+
+-- The destination is a byte.
+abbrev pub Narrow : Entry → Type 0
+Narrow x = x .envelope .dst .0 < 256
+
+pub cell-order : (x y : Entry) → Narrow x → Narrow y → cmpCell (cellOf x) (cellOf y) ≡ cmpEnvelope (x .envelope) (y .envelope)
+unfolding cmpCell cellOf cmpEnvelope
+cell-order x y h k =
+    ap (λ (o : Order). andThen o (andThen (cmpN (numberOf (x .envelope .msg)) (numberOf (y .envelope .msg))) (cmpN (payloadOf (x .envelope .msg)) (payloadOf (y .envelope .msg)))))
+    (head-order (x .envelope .src .0) (x .envelope .dst .0) (tagOf (x .envelope .msg)) (y .envelope .src .0) (y .envelope .dst .0) (tagOf (y .envelope .msg)) h (tag-few (x .envelope .msg)) k (tag-few (y .envelope .msg)))
+    ∙ simp (andThen-assoc, andThen-equal)
+
+pub cell-flow : (x : Entry) → flowOf (cellOf x) ≡ x .envelope .src .0 * 256 + x .envelope .dst .0
+unfolding cellOf
+cell-flow x = omega (arith, tag-few (x .envelope .msg))
+
+flow-order : (s d s' d' : ℕ) → d < 256 → d' < 256 → leb (s * 256 + d) (s' * 256 + d') ≡ not (isLess (andThen (cmpN s' s) (andThen (cmpN d' d) Equal)))
+flow-order s d s' d' h k = go (cmpN s' s) refl (cmpN d' d) refl
+  where
+    go : (o : Order) → cmpN s' s ≡ o → (p : Order) → cmpN d' d ≡ p → leb (s * 256 + d) (s' * 256 + d') ≡ not (isLess (andThen o (andThen p Equal)))
+    go Less e p f = lt-leb (s * 256 + d) (s' * 256 + d') (omega (arith, by s' s Less e))
+    go Greater e p f = le-leb (s * 256 + d) (s' * 256 + d') (omega (arith, by s' s Greater e))
+    go Equal e Less f = lt-leb (s * 256 + d) (s' * 256 + d') (omega (arith, by s' s Equal e, by d' d Less f))
+    go Equal e Greater f = le-leb (s * 256 + d) (s' * 256 + d') (omega (arith, by s' s Equal e, by d' d Greater f))
+    go Equal e Equal f = le-leb (s * 256 + d) (s' * 256 + d') (omega (arith, by s' s Equal e, by d' d Equal f))
+
+-- x is of a flow up to that of y
+pub cell-flows : (x y : Entry) → Narrow x → Narrow y → leb (flowOf (cellOf x)) (flowOf (cellOf y)) ≡ not (isLess (cmpFlow (y .envelope) (x .envelope)))
+unfolding cmpFlow
+cell-flows x y h k = ap₂ leb (cell-flow x) (cell-flow y) ∙ flow-order (x .envelope .src .0) (x .envelope .dst .0) (y .envelope .src .0) (y .envelope .dst .0) h k
+
+-- ---- back
+message-back : (m : Message) → messageOf (tagOf m) (numberOf m) (payloadOf m) ≡ m
+unfolding messageOf
+message-back (Deliver n p) = refl
+message-back (Ack n) = refl
+
+pub back : (x : Entry) → Narrow x → entryOf (cellOf x) ≡ x
+unfolding entryOf cellOf
+back x h =
+    let t = tag-few (x .envelope .msg) in
+    let h0 = headWith (x .envelope .src .0) (x .envelope .dst .0) (tagOf (x .envelope .msg)) in
+    let a : h0 / 512 ≡ x .envelope .src .0 = omega arith in
+    let b : h0 / 2 % 256 ≡ x .envelope .dst .0 = omega arith in
+    let c : h0 % 2 ≡ tagOf (x .envelope .msg) = omega arith in
+    let m = ap (λ (k : ℕ). messageOf k (numberOf (x .envelope .msg)) (payloadOf (x .envelope .msg))) c ∙ message-back (x .envelope .msg) in
+    λ i. record { envelope = record { src = record { 0 = a i }; dst = record { 0 = b i }; msg = m i }; count = x .count }
+
+pub narrow : (c : List ℕ) → Narrow (entryOf c)
+unfolding entryOf
+narrow c = mod-lt (getD c 0 0 / 2) (zero-lt-suc 255)
+
+pub narrow-all : (cs : List (List ℕ)) → All Narrow (map entryOf cs)
+narrow-all [] = tt
+narrow-all (c ∷ cs) = (narrow c, narrow-all cs)
+
+pub back-all : (l : List Entry) → All Narrow l → map entryOf (map cellOf l) ≡ l
+back-all [] h = refl
+back-all (x ∷ l) h = ap₂ (λ (y : Entry) (m : List Entry). y ∷ m) (back x (h .0)) (back-all l (h .1))
+
+-- ---- walks over cells are walks over their entries
+module _ {A B : Type 0} (f : A → B) (P : A → Type 0) where
+  pub lead-cells : (p : B → Bool) (q : A → Bool) → ((x : A) → P x → p (f x) ≡ q x) → (l : List A) → All P l → lead p (map f l) ≡ lead q l
+  lead-cells p q e [] h = refl
+  lead-cells p q e (x ∷ l) h = ap (λ (b : Bool). elim b [ true ↦ suc (lead p (map f l)) | false ↦ 0 ]) (e x (h .0)) ∙ ap (λ (n : ℕ). elim (q x) [ true ↦ suc n | false ↦ 0 ]) (lead-cells p q e l (h .1))
+
+  pub chain-cells : (R : B → B → Bool) (S : A → A → Bool) → ((x y : A) → P x → P y → R (f x) (f y) ≡ S x y) → (l : List A) → All P l → chain R (map f l) ≡ chain S l
+  unfolding chain
+  chain-cells R S e [] h = refl
+  chain-cells R S e (x ∷ []) h = refl
+  chain-cells R S e (x ∷ (y ∷ l)) h = rw (e x y (h .0) (h .1 .0), chain-cells R S e (y ∷ l) (h .1))
+
+-- ---- the tests of two cells, as the code makes them
+module _ (x k : List ℕ) where
+  pub before-head : getD x 0 0 < getD k 0 0 → true ≡ isLess (cmpCell x k)
+  unfolding cmpCell
+  before-head h = rw (lt-ltb (getD x 0 0) (getD k 0 0) h)
+
+  pub after-head : getD k 0 0 < getD x 0 0 → false ≡ isLess (cmpCell x k)
+  unfolding cmpCell
+  after-head h = rw (le-ltb (getD x 0 0) (getD k 0 0) (omega arith), lt-ltb (getD k 0 0) (getD x 0 0) h)
+
+  module _ (g : getD x 0 0 ≤ getD k 0 0) (h : getD k 0 0 ≤ getD x 0 0) where
+    past-head : cmpCell x k ≡ andThen (cmpN (getD x 1 0) (getD k 1 0)) (cmpN (getD x 2 0) (getD k 2 0))
+    unfolding cmpCell
+    past-head = rw (le-ltb (getD x 0 0) (getD k 0 0) h, le-ltb (getD k 0 0) (getD x 0 0) g)
+
+    pub before-number : getD x 1 0 < getD k 1 0 → true ≡ isLess (cmpCell x k)
+    before-number l = rw (past-head, lt-ltb (getD x 1 0) (getD k 1 0) l)
+
+    pub after-number : getD k 1 0 < getD x 1 0 → false ≡ isLess (cmpCell x k)
+    after-number l = rw (past-head, le-ltb (getD x 1 0) (getD k 1 0) (omega arith), lt-ltb (getD k 1 0) (getD x 1 0) l)
+
+    module _ (i : getD x 1 0 ≤ getD k 1 0) (j : getD k 1 0 ≤ getD x 1 0) where
+      past-number : cmpCell x k ≡ cmpN (getD x 2 0) (getD k 2 0)
+      past-number = past-head ∙ rw (le-ltb (getD x 1 0) (getD k 1 0) j, le-ltb (getD k 1 0) (getD x 1 0) i)
+
+      pub by-payload : ltb (getD x 2 0) (getD k 2 0) ≡ isLess (cmpCell x k)
+      by-payload = rw past-number (go (ltb (getD x 2 0) (getD k 2 0)) (ltb (getD k 2 0) (getD x 2 0)))
+        where
+          go : (a b : Bool) → a ≡ isLess (pickO a Less (pickO b Greater Equal))
+          go true b = refl
+          go false true = refl
+          go false false = refl
+
+      pub same-payload : eqb (getD x 2 0) (getD k 2 0) ≡ isEqual (cmpCell x k)
+      same-payload = rw past-number (go (cmpN (getD x 2 0) (getD k 2 0)) refl)
+        where
+          go : (o : Order) → cmpN (getD x 2 0) (getD k 2 0) ≡ o → eqb (getD x 2 0) (getD k 2 0) ≡ isEqual o
+          go Less e = ne-eqb (getD x 2 0) (getD k 2 0) (λ q. absurd (omega (arith, by (getD x 2 0) (getD k 2 0) Less e)))
+          go Equal e = eq-eqb (getD x 2 0) (getD k 2 0) (by (getD x 2 0) (getD k 2 0) Equal e)
+          go Greater e = ne-eqb (getD x 2 0) (getD k 2 0) (λ q. absurd (omega (arith, by (getD x 2 0) (getD k 2 0) Greater e)))
+
+    pub other-number : (getD x 1 0 ≡ getD k 1 0 → ⊥) → false ≡ isEqual (cmpCell x k)
+    other-number n = rw past-head (go (cmpN (getD x 1 0) (getD k 1 0)) refl)
+      where
+        go : (o : Order) → cmpN (getD x 1 0) (getD k 1 0) ≡ o → false ≡ isEqual (andThen o (cmpN (getD x 2 0) (getD k 2 0)))
+        go Less e = refl
+        go Equal e = absurd (n (by (getD x 1 0) (getD k 1 0) Equal e))
+        go Greater e = refl
+
+  pub other-head : (getD x 0 0 ≡ getD k 0 0 → ⊥) → false ≡ isEqual (cmpCell x k)
+  unfolding cmpCell
+  other-head n = go (cmpN (getD x 0 0) (getD k 0 0)) refl
+    where
+      go : (o : Order) → cmpN (getD x 0 0) (getD k 0 0) ≡ o → false ≡ isEqual (andThen o (andThen (cmpN (getD x 1 0) (getD k 1 0)) (cmpN (getD x 2 0) (getD k 2 0))))
+      go Less e = refl
+      go Equal e = absurd (n (by (getD x 0 0) (getD k 0 0) Equal e))
+      go Greater e = refl
+
+-- ---- an envelope once
+pub made-message : (e : Envelope) (n : Number) (p : Payload) (h : ℕ) → e .msg ≡ Deliver n p → h ≡ headWith (e .src .0) (e .dst .0) 0 → _≡_ {A = List ℕ} (h ∷ n .0 ∷ p .0 ∷ 1 ∷ []) (cellOf (single e))
+unfolding cellOf single
+made-message e n p h m q = rw (m, q)
+
+pub made-ack : (e : Envelope) (n : Number) (h : ℕ) → e .msg ≡ Ack n → h ≡ headWith (e .src .0) (e .dst .0) 1 → _≡_ {A = List ℕ} (h ∷ n .0 ∷ 0 ∷ 1 ∷ []) (cellOf (single e))
+unfolding cellOf single
+made-ack e n h m q = rw (m, q)

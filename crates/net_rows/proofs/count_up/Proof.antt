@@ -1,0 +1,54 @@
+use native.Mathlib.Omega.{arith}
+use Rattle.net_rows.proofs.Laws.{count-full, count-done, len-small}
+use borrow.Author.Needs.{needs}
+use Rattle.net_rows.proofs.count_up.Statement.{statement}
+use Rattle.net_rows.proofs.count_up.Tie as tie
+
+mul-n : tie.Need-mul-n
+mul-n c = search needs
+
+index-1-n : tie.Need-index-1-n
+index-1-n c = search needs
+
+index-2-n : tie.Need-index-2-n
+index-2-n c = search needs
+
+returns : tie.Need-returns
+returns c = let s = c .before .before in λ last. count-full (s .args .c .now) (s .args .used) (s .args .len) (s .pre .0) (s .args .at) (s .pre .1) last (c .if1 .taken)
+
+add-c : tie.Need-add-c
+add-c c = search needs
+
+mul-c : tie.Need-mul-c
+mul-c c = search needs
+
+index-1-c : tie.Need-index-1-c
+index-1-c c = search needs
+
+index-2-c : tie.Need-index-2-c
+index-2-c c = search needs
+
+add-t10 : tie.Need-add-t10
+add-t10 c = let s = c .before .before in omega (arith, len-small (s .args .c .now) (s .args .used) (s .args .len) (s .pre .0))
+
+same-length : tie.Need-same-length
+same-length c = search needs
+
+returns-2 : tie.Need-returns-2
+returns-2 c = let s = c .before .before in λ last. count-done (s .args .c .now) (s .args .used) (s .args .len) (s .pre .0) (s .args .at) (s .pre .1) last (c .if1 .left)
+
+pub count-up-spec : {M : Type 1} → statement M
+count-up-spec =
+    tie.close
+    (tie.spec
+    mul-n
+    index-1-n
+    index-2-n
+    returns
+    add-c
+    mul-c
+    index-1-c
+    index-2-c
+    add-t10
+    same-length
+    returns-2)

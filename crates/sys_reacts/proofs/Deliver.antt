@@ -1,0 +1,204 @@
+-- A delivery, and the commands after it.
+-- Assumes nothing.
+use Prim.Native.Nat.{ℕ, zero, suc, _+_, _-_, _≤_, _<_}
+use native.Mathlib.Omega.{arith}
+use mathlib.Core.Path.{_≡_, refl, sym, ap, _∙_, subst}
+use mathlib.Core.Bool.{Bool, true, false, _||_}
+use mathlib.Core.List.{List, [], _∷_, _++_}
+use lib.ListN.{length, take}
+use lib.Dec.{leb}
+use borrow.Author.Tests.{leb-false}
+use Rattle.lists.specs.Lists.{choose, cut}
+use Rattle.lists.proofs.Members.{cut-length}
+use Rattle.types.specs.declared.Kind.{Kind}
+use Rattle.types.specs.declared.Entry.{Entry}
+use Rattle.types.specs.declared.Envelope.{Envelope}
+use Rattle.answers.specs.declared.Answer.{Answer}
+use Rattle.types.specs.declared.LastMessage.{LastMessage}
+use Rattle.types.specs.declared.LastMessage.the-variants.{Nothing, Delivered as Got}
+use Rattle.answers.specs.Answers.{answerOf, answerNumber}
+use Rattle.rules.specs.Outcome.{Outcome, done, refused, bind, guard, Room}
+use Rattle.rules.specs.Network.{Net, len, lowered, fewer, remove, dropping, delivering, isDuplicating, present, onDeliver}
+use Rattle.rules.specs.Link.{Command}
+use Rattle.rules.specs.System.{Actor, unstarted, withTimers}
+use Rattle.parts.specs.Parts.{Part, runPart}
+use Rattle.link_timers.specs.Views.{listed}
+use Rattle.net_rows.specs.declared.Sent.{Sent}
+use Rattle.net_rows.specs.Views.{entryList, netOf, roomOf, NetReady, Changed}
+use Rattle.net_rows.proofs.Ready.{deliver-ready}
+use Rattle.net_rows.proofs.Laws.{used-is}
+use Rattle.link_direct.proofs.Apart.{sent, Runs, runs}
+use Rattle.answers.specs.Answers.{isDone}
+use Rattle.sys_emits.specs.declared.Emitted.{Emitted}
+use Rattle.sys_emits.specs.Views.{partIn, Ran}
+use Rattle.sys_emits.proofs.Laws.{not-both}
+use Rattle.sys_reacts.specs.Views.{lastAfter, taking, there, Taken, Delivered}
+
+-- ---- a delivery leaves at most as many entries and messages
+few-left : (x : Entry) (b : Bool) → length (choose b [] (lowered x ∷ [])) ≤ 1
+unfolding choose
+few-left x true = omega arith
+few-left x false = omega arith
+
+less-left : (x : Entry) (l : List Entry) (b : Bool) → len (choose b [] (lowered x ∷ []) ++ l) ≤ x .count + len l
+unfolding choose len lowered
+less-left x l true = omega arith
+less-left x l false = omega arith
+
+cut-len : (p : Entry → Bool) (l : List Entry) → len (cut p fewer l) ≤ len l
+unfolding cut choose len fewer
+cut-len p [] = omega arith
+cut-len p (x ∷ l) = go (p x) (cut-len p l)
+  where
+    go : (b : Bool) → len (cut p fewer l) ≤ len l → len (choose b (choose (leb (x .count) 1) [] (lowered x ∷ []) ++ l) (x ∷ cut p fewer l)) ≤ x .count + len l
+    go true h = less-left x l (leb (x .count) 1)
+    go false h = omega arith
+
+module _ (e : Envelope) (m : Net) where
+  fewer-entries : length (delivering e m .entries) ≤ length (m .entries)
+  unfolding delivering dropping remove choose fewer
+  fewer-entries = go (isDuplicating (m .kind))
+    where
+      go : (b : Bool) → length (choose b (record { kind = m .kind; entries = m .entries; last = Got e }) (dropping e m) .entries) ≤ length (m .entries)
+      go true = omega arith
+      go false = cut-length _ fewer (λ x. few-left x (leb (x .count) 1)) (m .entries)
+
+  fewer-messages : len (delivering e m .entries) ≤ len (m .entries)
+  unfolding delivering dropping remove choose
+  fewer-messages = go (isDuplicating (m .kind))
+    where
+      go : (b : Bool) → len (choose b (record { kind = m .kind; entries = m .entries; last = Got e }) (dropping e m) .entries) ≤ len (m .entries)
+      go true = omega arith
+      go false = cut-len _ (m .entries)
+
+  delivered-last : delivering e m .last ≡ lastAfter (m .kind) e (m .last)
+  unfolding delivering dropping choose lastAfter
+  delivered-last = go (isDuplicating (m .kind))
+    where
+      go : (b : Bool) → choose b (record { kind = m .kind; entries = m .entries; last = Got e }) (dropping e m) .last ≡ choose b (Got e) (m .last)
+      go true = refl
+      go false = refl
+
+  delivered-kind : delivering e m .kind ≡ m .kind
+  unfolding delivering dropping choose
+  delivered-kind = go (isDuplicating (m .kind))
+    where
+      go : (b : Bool) → choose b (record { kind = m .kind; entries = m .entries; last = Got e }) (dropping e m) .kind ≡ m .kind
+      go true = refl
+      go false = refl
+
+-- ---- the delivery, by whether the message is there
+module _ (kind : Kind) (e : Envelope) (cs : List (List ℕ)) (used n : ℕ) where
+  pub deliver-is : (last : LastMessage) → onDeliver e (netOf kind last cs used) ≡ guard (there kind e cs used) 3 (done (delivering e (netOf kind last cs used)))
+  unfolding onDeliver there present
+  deliver-is last = refl
+
+  module _ (s : Sent) (cs' : List (List ℕ)) (ch : (last : LastMessage) → Changed cs used n (onDeliver e (netOf kind last cs used)) s cs') where
+    by-there : (b : Bool) → there kind e cs used ≡ b → (last : LastMessage) → Changed cs used n (guard b 3 (done (delivering e (netOf kind last cs used)))) s cs'
+    by-there b q last = subst (λ (t : Bool). Changed cs used n (guard t 3 (done (delivering e (netOf kind last cs used)))) s cs') q (subst (λ (o : Outcome Net). Changed cs used n o s cs') (deliver-is last) (ch last))
+
+    pub there-true : isDone (s .answer) ≡ true → there kind e cs used ≡ true
+    unfolding guard answerOf
+    there-true h = go (there kind e cs used) refl
+      where
+        go : (b : Bool) → there kind e cs used ≡ b → there kind e cs used ≡ true
+        go true q = q
+        go false q = absurd (not-both (isDone (s .answer)) h (ap isDone (by-there false q Nothing .left .0)))
+
+    pub there-false : isDone (s .answer) ≡ false → there kind e cs used ≡ false
+    unfolding guard answerOf
+    there-false h = go (there kind e cs used) refl
+      where
+        go : (b : Bool) → there kind e cs used ≡ b → there kind e cs used ≡ false
+        go true q = absurd (not-both (isDone (s .answer)) (ap isDone (by-there true q Nothing .left .0)) h)
+        go false q = q
+
+    pub delivered-net : there kind e cs used ≡ true → (last : LastMessage) → onDeliver e (netOf kind last cs used) ≡ done (netOf kind (lastAfter kind e last) cs' (s .used))
+    unfolding guard
+    delivered-net q last =
+        let m = netOf kind last cs used in
+        let h = by-there true q last .left .1 .entries in
+        deliver-is last ∙ ap (λ (b : Bool). guard b 3 (done (delivering e m))) q
+        ∙ ap done (λ j. record { kind = delivered-kind e m j; entries = sym h j; last = delivered-last e m j })
+
+    module _ (cmds : List Command) (w next left : ℕ) (ready : NetReady kind cs used n) where
+      pub arrived-ready : NetReady kind cs' (s .used) (s .len)
+      arrived-ready = deliver-ready kind Nothing cs used n ready s cs' e (ch Nothing)
+
+      pub taken-absent : isDone (s .answer) ≡ false → Taken kind e cmds cs used n w (record { answer = s .answer; used = used; len = n; timers = w; next = next; left = left }) cs'
+      unfolding guard answerOf bind
+      taken-absent f =
+          let q = there-false f in
+          let z = by-there false q Nothing .left in
+          record {
+            room = ch Nothing .room;
+            ready = λ h. absurd (not-both (isDone (s .answer)) h f);
+            runs = λ h. absurd (not-both (isDone (s .answer)) h f);
+            stops = λ h last a. ap (λ (o : Outcome Net). bind o (λ m. runPart (roomOf cs) (e .dst) cmds (record { net = m; actor = withTimers (listed w) a }))) (deliver-is last ∙ ap (λ (b : Bool). guard b 3 (done (delivering e (netOf kind last cs used)))) q) ∙ ap (λ (x : Answer). refused (answerNumber x)) (sym (z .0));
+            same = λ h. (z .3, refl, refl, refl);
+          }
+
+      pub taken-run : isDone (s .answer) ≡ true → (r : Emitted) (cs'' : List (List ℕ)) → Ran kind (e .dst) cmds cs' (s .used) w r cs'' → Taken kind e cmds cs used n w r cs''
+      unfolding bind
+      taken-run t r cs'' ran =
+          let q = there-true t in
+          let rooms : roomOf cs ≡ roomOf cs' = λ j. record { entries = sym (ch Nothing .room) j; copies = 65535 } in
+          let on : (last : LastMessage) (a : Actor) → taking kind e cmds cs used w last a ≡ runPart (roomOf cs') (e .dst) cmds (partIn kind (lastAfter kind e last) cs' (s .used) w a) =
+          λ last a. ap (λ (o : Outcome Net). bind o (λ m. runPart (roomOf cs) (e .dst) cmds (record { net = m; actor = withTimers (listed w) a }))) (delivered-net q last)
+          ∙ ap (λ (c : Room). runPart c (e .dst) cmds (partIn kind (lastAfter kind e last) cs' (s .used) w a)) rooms in
+          record {
+            room = ran .room ∙ ch Nothing .room;
+            ready = ran .ready;
+            runs = λ h last a. on last a ∙ ran .runs h (lastAfter kind e last) a;
+            stops = λ h last a. on last a ∙ ran .stops h (lastAfter kind e last) a ∙ ap (λ (x : Answer). refused (answerNumber x)) (sym (ran .full h));
+            same = λ h. absurd (not-both (there kind e cs used) q h);
+          }
+
+-- ---- put back
+module _ (kind : Kind) (e : Envelope) (cmds : List Command) (cs : List (List ℕ)) (used n w : ℕ) (ready : NetReady kind cs used n) (r : Emitted) (cs' : List (List ℕ)) (taken : Taken kind e cmds cs used n w r cs') where
+  pub back-done : isDone (r .answer) ≡ true → Delivered kind e cmds cs used n w r cs'
+  back-done t = record {
+    room = taken .room;
+    ready = taken .ready t;
+    kept = λ h. absurd (not-both (isDone (r .answer)) t h);
+    runs = taken .runs;
+    stops = taken .stops;
+  }
+
+  pub back-again : isDone (r .answer) ≡ false → (next left : ℕ) → Delivered kind e cmds cs used n w (record { answer = r .answer; used = used; len = n; timers = w; next = next; left = left }) cs
+  back-again f next left = record {
+    room = refl;
+    ready = ready;
+    kept = λ h. (refl, refl, refl, refl);
+    runs = λ h. absurd (not-both (isDone (r .answer)) h f);
+    stops = taken .stops;
+  }
+
+  never : (o : Outcome Part) (p : Part) (k : ℕ) → o ≡ done p → o ≡ refused k → ⊥
+  never o p k a b = let z : _≡_ {A = ℕ} 0 1 = cc in omega arith
+
+  pub back-roomy : used + sent cmds ≤ length cs → n + sent cmds ≤ 65535 → Delivered kind e cmds cs used n w r cs'
+  unfolding guard bind
+  back-roomy h k = go (isDone (r .answer)) (there kind e cs used) refl refl
+    where
+      go : (b t : Bool) → isDone (r .answer) ≡ b → there kind e cs used ≡ t → Delivered kind e cmds cs used n w r cs'
+      go true t p q = back-done p
+      go false false p q =
+          let z = taken .same q in
+          record {
+            room = taken .room;
+            ready = rw (z .0, z .1, z .2) ready;
+            kept = λ g. z;
+            runs = λ g. absurd (not-both (isDone (r .answer)) g p);
+            stops = taken .stops;
+          }
+      go false true p q =
+          let m = netOf kind Nothing cs used in
+          let u = used-is cs used n (ready .laid) in
+          let v = ready .laid .sum in
+          let x = fewer-entries e m in
+          let y = fewer-messages e m in
+          let g = runs (roomOf cs) (e .dst) cmds (record { net = delivering e m; actor = withTimers (listed w) (unstarted []) }) (omega arith) (omega arith) in
+          absurd (never (taking kind e cmds cs used w Nothing (unstarted [])) (g .part) _
+          (ap (λ (o : Outcome Net). bind o (λ i. runPart (roomOf cs) (e .dst) cmds (record { net = i; actor = withTimers (listed w) (unstarted []) }))) (deliver-is kind e cs used n Nothing ∙ ap (λ (b : Bool). guard b 3 (done (delivering e m))) q) ∙ g .done-is)
+          (taken .stops p Nothing (unstarted [])))

@@ -1,0 +1,23 @@
+use native.Mathlib.Omega.{arith}
+use mathlib.Core.Bool.{true, false}
+use mathlib.Core.Path.{refl, sym}
+use borrow.Author.Tests.{leb-true}
+use Rattle.sys_emits.proofs.Laws.{not-both}
+use borrow.Author.Needs.{needs}
+use Rattle.sys_reacts.proofs.roomy.Statement.{statement}
+use Rattle.sys_reacts.proofs.roomy.Tie as tie
+
+sub-places : tie.Need-sub-places
+sub-places c = search needs
+
+returns : tie.Need-returns
+returns c = λ h. absurd (not-both false h refl)
+
+returns-2 : tie.Need-returns-2
+returns-2 c = λ h. absurd (not-both false h refl)
+
+returns-3 : tie.Need-returns-3
+returns-3 c = λ h. let a = (c .before .before .args) in let p = leb-true (a .sends) _ h in (omega arith, omega arith)
+
+pub roomy-spec : {M : Type 1} → statement M
+roomy-spec = tie.close (tie.spec sub-places returns returns-2 returns-3)

@@ -1,0 +1,81 @@
+-- 6 and 7 of so many sends, and what a run of commands leaves where it is put back after an 8.
+-- Assumes nothing.
+use Prim.Native.Nat.{ℕ, _-_}
+use mathlib.Core.Path.{_≡_}
+use mathlib.Core.Bool.{Bool, true, false, _&&_, _||_}
+use mathlib.Core.List.{List, [], _∷_}
+use lib.ListN.{length}
+use lib.Dec.{leb}
+use Rattle.lists.specs.Lists.{choose}
+use Rattle.types.specs.declared.Id.{Id}
+use Rattle.types.specs.declared.Kind.{Kind}
+use Rattle.types.specs.declared.LastMessage.{LastMessage}
+use Rattle.types.specs.declared.LastMessage.the-variants.{Nothing as Nowhere, Delivered as Got}
+use Rattle.types.specs.declared.Envelope.{Envelope}
+use Rattle.answers.specs.Answers.{answerNumber}
+use Rattle.types.specs.declared.Message.the-variants.{Ack}
+use Rattle.answers.specs.declared.Answer.the-variants.{NetworkFull}
+use Rattle.rules.specs.Outcome.{Outcome, done, refused, bind, Limits}
+use Rattle.rules.specs.Network.{isDuplicating, present, onDeliver}
+use Rattle.link_timers.specs.Views.{listed}
+use Rattle.rules.specs.Link.{Command, Send}
+use Rattle.rules.specs.System.{Actor, withTimers}
+use Rattle.parts.specs.Parts.{Part, runPart}
+use Rattle.net_rows.specs.Views.{netOf, roomOf, NetReady}
+use Rattle.answers.specs.Answers.{isDone}
+use Rattle.sys_emits.specs.declared.Emitted.{Emitted}
+use Rattle.sys_emits.specs.Views.{partIn}
+use Rattle.sys_reacts.specs.declared.First.{First}
+use Rattle.sys_reacts.specs.declared.First.the-variants.{Nothing, Acked}
+
+-- The places are those of the rows.
+abbrev pub limitsOf : ℕ → Limits
+limitsOf room = record { numbers = 18446744073709551615; pending = room }
+
+-- The first to run out decides, numbers before places.
+unfoldable pub refusalOf : ℕ → ℕ → ℕ → ℕ → ℕ
+refusalOf next pending room sends =
+    choose (leb sends (18446744073709551615 - next) && leb sends (room - pending)) 0
+    (choose (leb (18446744073709551615 - next) (room - pending)) 6 7)
+
+-- What goes before a row's commands.
+unfoldable pub frontOf : Id → First → List Command
+frontOf source Nothing = []
+frontOf source (Acked n) = Send source (Ack n) ∷ []
+
+-- Commands that were run, or else an 8 and everything as it was.
+pub record Safe (kind : Kind) (me : Id) (cmds : List Command) (cs : List (List ℕ)) (used n w : ℕ) (r : Emitted) (cs' : List (List ℕ)) : Type 0 where
+  pub room : length cs' ≡ length cs
+  pub ready : NetReady kind cs' (r .used) (r .len)
+  pub full : isDone (r .answer) ≡ false → r .answer ≡ NetworkFull
+  pub kept : isDone (r .answer) ≡ false → (cs' ≡ cs) × (r .used ≡ used) × (r .len ≡ n) × (r .timers ≡ w)
+  pub runs : isDone (r .answer) ≡ true → (last : LastMessage) (a : Actor) → runPart (roomOf cs) me cmds (partIn kind last cs used w a) ≡ done (partIn kind last cs' (r .used) (r .timers) a)
+  pub stops : isDone (r .answer) ≡ false → (last : LastMessage) (a : Actor) → runPart (roomOf cs) me cmds (partIn kind last cs used w a) ≡ refused 8
+
+-- The last message after a delivery.
+unfoldable pub lastAfter : Kind → Envelope → LastMessage → LastMessage
+lastAfter k e l = choose (isDuplicating k) (Got e) l
+
+-- A delivery and the commands after it.
+abbrev pub taking : Kind → Envelope → List Command → List (List ℕ) → ℕ → ℕ → LastMessage → Actor → Outcome Part
+taking kind e cmds cs used w last a = bind (onDeliver e (netOf kind last cs used)) (λ n. runPart (roomOf cs) (e .dst) cmds (record { net = n; actor = withTimers (listed w) a }))
+
+-- The message is there to be delivered: else 3.
+unfoldable pub there : Kind → Envelope → List (List ℕ) → ℕ → Bool
+there kind e cs used = isDuplicating kind || present e (netOf kind Nowhere cs used)
+
+-- They were run, or 3 with nothing changed, or 8: what is left in the cells after an 8 is not said.
+pub record Taken (kind : Kind) (e : Envelope) (cmds : List Command) (cs : List (List ℕ)) (used n w : ℕ) (r : Emitted) (cs' : List (List ℕ)) : Type 0 where
+  pub room : length cs' ≡ length cs
+  pub ready : isDone (r .answer) ≡ true → NetReady kind cs' (r .used) (r .len)
+  pub runs : isDone (r .answer) ≡ true → (last : LastMessage) (a : Actor) → taking kind e cmds cs used w last a ≡ done (partIn kind (lastAfter kind e last) cs' (r .used) (r .timers) a)
+  pub stops : isDone (r .answer) ≡ false → (last : LastMessage) (a : Actor) → taking kind e cmds cs used w last a ≡ refused (answerNumber (r .answer))
+  pub same : there kind e cs used ≡ false → (cs' ≡ cs) × (r .used ≡ used) × (r .len ≡ n) × (r .timers ≡ w)
+
+-- The same, put back.
+pub record Delivered (kind : Kind) (e : Envelope) (cmds : List Command) (cs : List (List ℕ)) (used n w : ℕ) (r : Emitted) (cs' : List (List ℕ)) : Type 0 where
+  pub room : length cs' ≡ length cs
+  pub ready : NetReady kind cs' (r .used) (r .len)
+  pub kept : isDone (r .answer) ≡ false → (cs' ≡ cs) × (r .used ≡ used) × (r .len ≡ n) × (r .timers ≡ w)
+  pub runs : isDone (r .answer) ≡ true → (last : LastMessage) (a : Actor) → taking kind e cmds cs used w last a ≡ done (partIn kind (lastAfter kind e last) cs' (r .used) (r .timers) a)
+  pub stops : isDone (r .answer) ≡ false → (last : LastMessage) (a : Actor) → taking kind e cmds cs used w last a ≡ refused (answerNumber (r .answer))

@@ -1,0 +1,314 @@
+// The commands of a rule, with an Ack in front where there is one: 6 and 7 beforehand, and after an 8 the cells are put back.
+// Where there is room for all sends no copy is made.
+use answers::is_done;
+use sys_emits::Emitted;
+use sys_emits::emit;
+use answers::Answer;
+use types::Envelope;
+use types::Id;
+use types::Kind;
+use types::Message;
+use types::Number;
+ghost use mathlib.Core.Path.{_≡_};
+ghost use mathlib.Core.Bool.{true};
+ghost use mathlib.Core.List.{List, [], _∷_, _++_};
+ghost use Prim.Native.Nat.{_+_, _≤_, _<_};
+ghost use lib.ListN.{length, take, getD};
+ghost use Rattle.answers.specs.Answers.{answerOf};
+ghost use Rattle.net_rows.specs.Views.{NetReady};
+ghost use Rattle.link_direct.specs.Direct.{asked, sends};
+ghost use Rattle.link_tables.specs.Rows.{RowLaid, orders};
+ghost use Rattle.sys_emits.specs.Views.{Ran};
+ghost use Rattle.sys_reacts.specs.declared.First.the-variants.{Acked};
+ghost use Rattle.sys_reacts.specs.Views.{refusalOf, frontOf, Safe, Taken, Delivered};
+
+// What goes before a row's commands: an Ack to the source, or nothing.
+pub enum First {
+    Nothing,
+    Acked(Number),
+}
+
+// 6 and 7: decided by the numbers and places that are left.
+pub fn refusal(next: u64, pending: u64, room: u64, sends: u64) -> Answer
+    requires { ⌜ pending ≤ room ⌝ }
+    ensures { λ r. ⌜ (r ≡ answerOf (refusalOf next pending room sends)) × (next ≤ 18446744073709551615) ⌝ }
+{
+    let numbers = 18446744073709551615 - next;
+    let places = room - pending;
+    if numbers <= places {
+        if sends <= numbers {
+            return Answer::Done;
+        }
+        return Answer::NumbersUsedUp;
+    }
+    if sends <= places {
+        return Answer::Done;
+    }
+    Answer::PendingFull
+}
+
+// Whether so many sends cannot be refused.
+fn roomy(room: usize, used: usize, len: u64, sends: u64) -> bool
+    requires { ⌜ used ≤ room ⌝ }
+    ensures { λ r. ⌜ (r ≡ true → (used + sends ≤ room) × (len + sends ≤ 65535)) ⌝ }
+{
+    let places = (room - used) as u64;
+    if places < sends {
+        return false;
+    }
+    if 65535 < len {
+        return false;
+    }
+    sends <= 65535 - len
+}
+
+// An Ack, where there is one, and the commands of a row: the first `limit` of all these.
+pub fn run_row(
+    c: &mut [[u64; 4]],
+    kind: Kind,
+    used: usize,
+    len: u64,
+    timers: u32,
+    row: &[u64],
+    me: Id,
+    source: Id,
+    value: u32,
+    next: u64,
+    limit: usize,
+    first: First,
+) -> Emitted
+    requires { ⌜ NetReady kind (now c) used len × RowLaid (now row) × (next + sends (orders (now row) source value) ≤ 18446744073709551615) ⌝ }
+    ensures { λ r. ⌜ Ran kind me (take limit (frontOf source first ++ asked next (orders (now (row .entry)) source value))) (now (c .entry)) used timers r (now (c .exit)) ⌝ }
+{
+    match first {
+        First::Nothing => emit(
+            c,
+            kind,
+            used,
+            len,
+            timers,
+            row,
+            me,
+            source,
+            value,
+            next,
+            limit,
+        ),
+        First::Acked(n) => {
+            if limit == 0 {
+                return Emitted {
+                    answer: Answer::Done,
+                    used: used,
+                    len: len,
+                    timers: timers,
+                    next: next,
+                    left: 0,
+                };
+            }
+            let e = Envelope {
+                src: me,
+                dst: source,
+                msg: Message::Ack(n),
+            };
+            let s = net_rows::send(c, kind, used, len, e);
+            let a = s.answer;
+            if !is_done(a) {
+                return Emitted {
+                    answer: a,
+                    used: used,
+                    len: len,
+                    timers: timers,
+                    next: next,
+                    left: limit,
+                };
+            }
+            emit(
+                c,
+                kind,
+                s.used,
+                s.len,
+                timers,
+                row,
+                me,
+                source,
+                value,
+                next,
+                limit - 1,
+            )
+        }
+    }
+}
+
+// The same, put back after an 8.
+pub fn react_row(
+    c: &mut [[u64; 4]; 128],
+    kind: Kind,
+    used: usize,
+    len: u64,
+    timers: u32,
+    row: &[u64],
+    me: Id,
+    source: Id,
+    value: u32,
+    next: u64,
+    limit: usize,
+    first: First,
+) -> Emitted
+    requires { ⌜ NetReady kind (now c) used len × RowLaid (now row) × (next + sends (orders (now row) source value) ≤ 18446744073709551615) × (length (now c) ≡ 128) × (getD (now row) 14 0 ≡ sends (orders (now row) source value)) ⌝ }
+    ensures { λ r. ⌜ Safe kind me (take limit (frontOf source first ++ asked next (orders (now (row .entry)) source value))) (now (c .entry)) used len timers r (now (c .exit)) ⌝ }
+{
+    let n = row[14];
+    if roomy(128, used, len, n + 1) {
+        return run_row(
+            c,
+            kind,
+            used,
+            len,
+            timers,
+            row,
+            me,
+            source,
+            value,
+            next,
+            limit,
+            first,
+        );
+    }
+    let old = *c;
+    let s = run_row(
+        c,
+        kind,
+        used,
+        len,
+        timers,
+        row,
+        me,
+        source,
+        value,
+        next,
+        limit,
+        first,
+    );
+    let a = s.answer;
+    if is_done(a) {
+        return s;
+    }
+    *c = old;
+    Emitted {
+        answer: a,
+        used: used,
+        len: len,
+        timers: timers,
+        next: next,
+        left: limit,
+    }
+}
+
+// A message is delivered, and then the same with its Ack in front.
+fn take_row(
+    c: &mut [[u64; 4]],
+    kind: Kind,
+    used: usize,
+    len: u64,
+    timers: u32,
+    row: &[u64],
+    e: Envelope,
+    value: u32,
+    number: Number,
+    next: u64,
+    limit: usize,
+) -> Emitted
+    requires { ⌜ NetReady kind (now c) used len × RowLaid (now row) × (next + sends (orders (now row) (e .src) value) ≤ 18446744073709551615) ⌝ }
+    ensures { λ r. ⌜ Taken kind e (take limit (frontOf (e .src) (Acked number) ++ asked next (orders (now (row .entry)) (e .src) value))) (now (c .entry)) used len timers r (now (c .exit)) ⌝ }
+{
+    let s = net_rows::on_deliver(c, kind, used, len, e);
+    let a = s.answer;
+    if !is_done(a) {
+        return Emitted {
+            answer: a,
+            used: used,
+            len: len,
+            timers: timers,
+            next: next,
+            left: limit,
+        };
+    }
+    let source = e.src;
+    let me = e.dst;
+    run_row(
+        c,
+        kind,
+        s.used,
+        s.len,
+        timers,
+        row,
+        me,
+        source,
+        value,
+        next,
+        limit,
+        First::Acked(number),
+    )
+}
+
+// The same, put back after an 8.
+pub fn deliver_row(
+    c: &mut [[u64; 4]; 128],
+    kind: Kind,
+    used: usize,
+    len: u64,
+    timers: u32,
+    row: &[u64],
+    e: Envelope,
+    value: u32,
+    number: Number,
+    next: u64,
+    limit: usize,
+) -> Emitted
+    requires { ⌜ NetReady kind (now c) used len × RowLaid (now row) × (next + sends (orders (now row) (e .src) value) ≤ 18446744073709551615) × (length (now c) ≡ 128) × (getD (now row) 14 0 ≡ sends (orders (now row) (e .src) value)) ⌝ }
+    ensures { λ r. ⌜ Delivered kind e (take limit (frontOf (e .src) (Acked number) ++ asked next (orders (now (row .entry)) (e .src) value))) (now (c .entry)) used len timers r (now (c .exit)) ⌝ }
+{
+    let n = row[14];
+    if roomy(128, used, len, n + 1) {
+        return take_row(
+            c,
+            kind,
+            used,
+            len,
+            timers,
+            row,
+            e,
+            value,
+            number,
+            next,
+            limit,
+        );
+    }
+    let old = *c;
+    let s = take_row(
+        c,
+        kind,
+        used,
+        len,
+        timers,
+        row,
+        e,
+        value,
+        number,
+        next,
+        limit,
+    );
+    let a = s.answer;
+    if is_done(a) {
+        return s;
+    }
+    *c = old;
+    Emitted {
+        answer: a,
+        used: used,
+        len: len,
+        timers: timers,
+        next: next,
+        left: limit,
+    }
+}

@@ -1,0 +1,87 @@
+// Every pending message is sent again, in place. After an 8 the cells are the caller's to put back.
+use answers::is_done;
+use sys_emits::Emitted;
+use net_rows::Sent;
+use answers::Answer;
+use types::Envelope;
+use types::Id;
+use types::Kind;
+use types::Message;
+use types::Number;
+use types::Payload;
+ghost use mathlib.Core.Path.{_≡_};
+ghost use mathlib.Core.List.{map};
+ghost use Prim.Native.Nat.{_≤_, _<_};
+ghost use lib.ListN.{length, take};
+ghost use Rattle.types.specs.declared.LastMessage.{LastMessage};
+ghost use Rattle.types.specs.declared.Message.the-variants.{Deliver};
+ghost use Rattle.rules.specs.Network.{send};
+ghost use Rattle.rules.specs.Link.{resent};
+ghost use Rattle.net_rows.specs.Views.{netOf, roomOf, NetReady, Changed};
+ghost use Rattle.link_rows.specs.Rows.{pendingIn};
+ghost use Rattle.sys_emits.specs.Views.{Ran};
+ghost use Rattle.sys_resends.specs.Views.{Sendable};
+
+fn resend_one(
+    c: &mut [[u64; 4]],
+    kind: Kind,
+    used: usize,
+    len: u64,
+    me: Id,
+    number: u64,
+    dst: u64,
+    payload: u64,
+) -> Sent
+    requires { ⌜ NetReady kind (now c) used len × (dst < 256) × (payload < 4294967296) ⌝ }
+    ensures { λ r. ⌜ ((last : LastMessage) → Changed (now (c .entry)) used len (send (roomOf (now (c .entry))) (record { src = me; dst = record { 0 = dst }; msg = Deliver (record { 0 = number }) (record { 0 = payload }) }) (netOf kind last (now (c .entry)) used)) r (now (c .exit))) ⌝ }
+{
+    let e = Envelope {
+        src: me,
+        dst: Id(dst as u8),
+        msg: Message::Deliver(Number(number), Payload(payload as u32)),
+    };
+    net_rows::send(c, kind, used, len, e)
+}
+
+pub fn resend(
+    c: &mut [[u64; 4]],
+    kind: Kind,
+    used: usize,
+    len: u64,
+    timers: u32,
+    me: Id,
+    pend: &[[u64; 3]],
+    n: usize,
+) -> Emitted
+    requires { ⌜ NetReady kind (now c) used len × (n ≤ length (now pend)) × Sendable (now pend) n ⌝ }
+    ensures { λ r. ⌜ Ran kind me (resent (map pendingIn (take n (now (pend .entry))))) (now (c .entry)) used timers r (now (c .exit)) ⌝ }
+{
+    let mut u = used;
+    let mut l = len;
+    let mut i = 0;
+    while i < n {
+        let s = resend_one(c, kind, u, l, me, pend[i][0], pend[i][1], pend[i][2]);
+        let a = s.answer;
+        if !is_done(a) {
+            return Emitted {
+                answer: a,
+                used: u,
+                len: l,
+                timers: timers,
+                next: 0,
+                left: 0,
+            };
+        }
+        u = s.used;
+        l = s.len;
+        i += 1;
+    }
+    Emitted {
+        answer: Answer::Done,
+        used: u,
+        len: l,
+        timers: timers,
+        next: 0,
+        left: 0,
+    }
+}

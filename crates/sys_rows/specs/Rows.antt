@@ -1,0 +1,65 @@
+-- The actor that four rows are, with its rules; and the part with its network.
+-- Assumes nothing.
+use Prim.Native.Nat.{ℕ, zero, suc, _+_, _≤_, _<_}
+use mathlib.Core.Path.{_≡_}
+use mathlib.Core.Option.{Option, none, some}
+use mathlib.Core.List.{List}
+use lib.ListN.{length, drop, getD}
+use Rattle.types.specs.declared.Kind.{Kind}
+use Rattle.types.specs.declared.Rule.{Rule}
+use Rattle.types.specs.declared.LastMessage.{LastMessage}
+use Rattle.types.specs.declared.InnerCommand.{InnerCommand}
+use Rattle.rules.specs.Link.{Durable, withTaken}
+use Rattle.rules.specs.System.{Actor}
+use Rattle.parts.specs.Parts.{Part}
+use Rattle.link_timers.specs.Views.{listed}
+use Rattle.net_rows.specs.Views.{netOf}
+use Rattle.link_tables.specs.Rows.{mark}
+use Rattle.link_rows.specs.Rows.{durableIn}
+use Rattle.link_direct.specs.Direct.{noted}
+
+unfoldable pub storedIn : ℕ → Durable → Option Durable
+storedIn zero d = none
+storedIn (suc n) d = some d
+
+-- The live row has the marks: 5 crashed, 6 timers, 7 state. In the stored one place 5 says that something is stored.
+unfoldable pub actorOf : List Rule → List ℕ → List (List ℕ) → List ℕ → List (List ℕ) → Actor
+actorOf rs w p k q = record {
+  rules = rs;
+  crashed = mark (getD w 5 0);
+  timers = listed (getD w 6 0);
+  link = record { durable = durableIn w p; state = getD w 7 0 };
+  storage = storedIn (getD k 5 0) (durableIn k q);
+}
+
+abbrev pub wholeOf : Kind → LastMessage → List (List ℕ) → ℕ → List Rule → List ℕ → List (List ℕ) → List ℕ → List (List ℕ) → Part
+wholeOf kind last cs used rs w p k q = record { net = netOf kind last cs used; actor = actorOf rs w p k q }
+
+-- From place 4 on: the count of sources, the marks, and the numbers last taken; those that are not counted are 0.
+pub record TailLaid (t : List ℕ) : Type 0 where
+  pub sources : getD t 0 0 ≤ 8
+  pub timers : getD t 2 0 < 4294967296
+  pub state : getD t 3 0 < 16
+  pub rest : (i : ℕ) → getD t 0 0 ≤ i → i < 8 → getD t (4 + i) 0 ≡ 0
+
+pub record RowsLaid (w : List ℕ) (p : List (List ℕ)) : Type 0 where
+  pub room : length w ≡ 16
+  pub places : length p ≡ 32
+  pub pending : getD w 1 0 ≤ 32
+  pub tail : TailLaid (drop 4 w)
+
+-- What a handler leaves of the live rows: a durable part, timers and a state.
+pub record Settled (d : Durable) (t s : ℕ) (w : List ℕ) (w' : List ℕ) (p' : List (List ℕ)) : Type 0 where
+  pub durable : durableIn w' p' ≡ d
+  pub crashed : getD w' 5 0 ≡ getD w 5 0
+  pub timers : getD w' 6 0 ≡ t
+  pub state : getD w' 7 0 ≡ s
+  pub laid : RowsLaid w' p'
+
+-- A number last taken is noted: the durable part is the rules' one, and the marks and the pending count stay.
+pub record Noticed (source number : ℕ) (w w' : List ℕ) : Type 0 where
+  pub durable : (p : List (List ℕ)) → durableIn w' p ≡ withTaken (record { 0 = source }) (record { 0 = number }) (durableIn w p)
+  pub pending : getD w' 1 0 ≡ getD w 1 0
+  pub numbers : getD w' 0 0 ≡ getD w 0 0
+  pub crashed : getD w' 5 0 ≡ getD w 5 0
+  pub tail : TailLaid (drop 4 w')
