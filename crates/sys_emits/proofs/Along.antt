@@ -14,13 +14,13 @@ use Rattle.types.specs.declared.InnerCommand.{InnerCommand}
 use Rattle.types.specs.declared.InnerCommand.the-variants as inner
 use Rattle.rules.specs.Outcome.{Outcome, done, refused, Room}
 use Rattle.rules.specs.Link.{Command}
-use Rattle.rules.specs.System.{Actor}
-use Rattle.parts.specs.Parts.{Part, runPart}
+use Rattle.rules.specs.System.{Actor, runCommands}
+use Rattle.sys_seat.specs.Seat.{Around}
 use Rattle.net_rows.specs.Views.{roomOf, NetReady}
 use Rattle.link_direct.specs.Direct.{asked, sends}
 use Rattle.answers.specs.Answers.{isDone}
 use Rattle.sys_emits.specs.declared.Emitted.{Emitted}
-use Rattle.sys_emits.specs.Views.{partIn, Ran, Went}
+use Rattle.sys_emits.specs.Views.{sysIn, Ran, Went}
 use Rattle.sys_emits.proofs.Laws.{not-both}
 
 sends-cons : (x : InnerCommand) (os : List InnerCommand) → sends (x ∷ os) ≡ sends (x ∷ []) + sends os
@@ -38,16 +38,16 @@ module _ (kind : Kind) (me : Id) (cmds : List Command) (cs₀ : List (List ℕ))
     pub room : length cs ≡ length cs₀
     pub ready : NetReady kind cs u l
     pub number : m + sends rest ≤ 18446744073709551615
-    pub goal : (last : LastMessage) (a : Actor) → runPart (roomOf cs₀) me cmds (partIn kind last cs₀ used w₀ a) ≡ runPart (roomOf cs₀) me (take k (asked m rest)) (partIn kind last cs u w a)
+    pub goal : (hall : Around me) (last : LastMessage) (a : Actor) → runCommands (roomOf cs₀) me cmds (sysIn me hall kind last cs₀ used w₀ a) ≡ runCommands (roomOf cs₀) me (take k (asked m rest)) (sysIn me hall kind last cs u w a)
 
   module _ (cs : List (List ℕ)) (u l w m k : ℕ) (rest : List InnerCommand) (on : Along cs u l w m k rest) where
     pub along-end : take k (asked m rest) ≡ [] → Ran kind me cmds cs₀ used w₀ (record { answer = Done; used = u; len = l; timers = w; next = m; left = k }) cs
-    unfolding runPart
+    unfolding runCommands
     along-end e = record {
       room = on .room;
       full = λ h. absurd (not-both (isDone Done) refl h);
       ready = λ h. on .ready;
-      runs = λ h last a. on .goal last a ∙ rw e;
+      runs = λ h hall last a. on .goal hall last a ∙ rw e;
       stops = λ h. absurd (not-both (isDone Done) refl h);
     }
 
@@ -64,7 +64,7 @@ module _ (kind : Kind) (me : Id) (cmds : List Command) (cs₀ : List (List ℕ))
         full = went .full;
         ready = λ h. absurd (not-both (isDone (r .answer)) h f);
         runs = λ h. absurd (not-both (isDone (r .answer)) h f);
-        stops = λ h last a. on .goal last a ∙ ap (λ (o : List InnerCommand). runPart (roomOf cs₀) me (take k (asked m o)) (partIn kind last cs u w a)) split ∙ ap (λ (c : Room). runPart c me (take k (asked m (x ∷ os))) (partIn kind last cs u w a)) (sym rooms) ∙ went .stops h last a os;
+        stops = λ h hall last a. on .goal hall last a ∙ ap (λ (o : List InnerCommand). runCommands (roomOf cs₀) me (take k (asked m o)) (sysIn me hall kind last cs u w a)) split ∙ ap (λ (c : Room). runCommands c me (take k (asked m (x ∷ os))) (sysIn me hall kind last cs u w a)) (sym rooms) ∙ went .stops h hall last a os;
       }
 
       pub along-step : isDone (r .answer) ≡ true → Along cs' (r .used) (r .len) (r .timers) (r .next) (r .left) os
@@ -72,10 +72,10 @@ module _ (kind : Kind) (me : Id) (cmds : List Command) (cs₀ : List (List ℕ))
         room = went .room ∙ on .room;
         ready = went .ready t;
         number = let z = on .number in let s = ap sends split in let y = sends-cons x os in let v = went .number t in omega arith;
-        goal = λ last a.
-            on .goal last a ∙ ap (λ (o : List InnerCommand). runPart (roomOf cs₀) me (take k (asked m o)) (partIn kind last cs u w a)) split
-            ∙ ap (λ (c : Room). runPart c me (take k (asked m (x ∷ os))) (partIn kind last cs u w a)) (sym rooms)
-            ∙ went .onward t last a os ∙ ap (λ (c : Room). runPart c me (take (r .left) (asked (r .next) os)) (partIn kind last cs' (r .used) (r .timers) a)) rooms;
+        goal = λ hall last a.
+            on .goal hall last a ∙ ap (λ (o : List InnerCommand). runCommands (roomOf cs₀) me (take k (asked m o)) (sysIn me hall kind last cs u w a)) split
+            ∙ ap (λ (c : Room). runCommands c me (take k (asked m (x ∷ os))) (sysIn me hall kind last cs u w a)) (sym rooms)
+            ∙ went .onward t hall last a os ∙ ap (λ (c : Room). runCommands c me (take (r .left) (asked (r .next) os)) (sysIn me hall kind last cs' (r .used) (r .timers) a)) rooms;
       }
 
 pub nothing-more : (k m : ℕ) (rest : List InnerCommand) → rest ≡ [] → take k (asked m rest) ≡ []

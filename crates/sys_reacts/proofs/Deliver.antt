@@ -20,17 +20,18 @@ use Rattle.answers.specs.Answers.{answerOf, answerNumber}
 use Rattle.rules.specs.Outcome.{Outcome, done, refused, bind, guard, Room}
 use Rattle.rules.specs.Network.{Net, len, lowered, fewer, remove, dropping, delivering, isDuplicating, present, onDeliver}
 use Rattle.rules.specs.Link.{Command}
-use Rattle.rules.specs.System.{Actor, unstarted, withTimers}
-use Rattle.parts.specs.Parts.{Part, runPart}
+use Rattle.rules.specs.System.{Actor, Sys, unstarted, withTimers, runCommands}
+use Rattle.sys_seat.specs.Seat.{Around, holding}
+use Rattle.sys_seat.proofs.Seats.{some-hall}
+use Rattle.sys_seat.proofs.Rooms.{sent, Runs, runs}
 use Rattle.link_timers.specs.Views.{listed}
 use Rattle.net_rows.specs.declared.Sent.{Sent}
 use Rattle.net_rows.specs.Views.{entryList, netOf, roomOf, NetReady, Changed}
 use Rattle.net_rows.proofs.Ready.{deliver-ready}
 use Rattle.net_rows.proofs.Laws.{used-is}
-use Rattle.link_direct.proofs.Apart.{sent, Runs, runs}
 use Rattle.answers.specs.Answers.{isDone}
 use Rattle.sys_emits.specs.declared.Emitted.{Emitted}
-use Rattle.sys_emits.specs.Views.{partIn, Ran}
+use Rattle.sys_emits.specs.Views.{sysIn, Ran}
 use Rattle.sys_emits.proofs.Laws.{not-both}
 use Rattle.sys_reacts.specs.Views.{lastAfter, taking, there, Taken, Delivered}
 
@@ -134,7 +135,7 @@ module _ (kind : Kind) (e : Envelope) (cs : List (List ℕ)) (used n : ℕ) wher
             room = ch Nothing .room;
             ready = λ h. absurd (not-both (isDone (s .answer)) h f);
             runs = λ h. absurd (not-both (isDone (s .answer)) h f);
-            stops = λ h last a. ap (λ (o : Outcome Net). bind o (λ m. runPart (roomOf cs) (e .dst) cmds (record { net = m; actor = withTimers (listed w) a }))) (deliver-is last ∙ ap (λ (b : Bool). guard b 3 (done (delivering e (netOf kind last cs used)))) q) ∙ ap (λ (x : Answer). refused (answerNumber x)) (sym (z .0));
+            stops = λ h hall last a. ap (λ (o : Outcome Net). bind o (λ m. runCommands (roomOf cs) (e .dst) cmds (holding (e .dst) hall m (withTimers (listed w) a)))) (deliver-is last ∙ ap (λ (b : Bool). guard b 3 (done (delivering e (netOf kind last cs used)))) q) ∙ ap (λ (x : Answer). refused (answerNumber x)) (sym (z .0));
             same = λ h. (z .3, refl, refl, refl);
           }
 
@@ -143,14 +144,14 @@ module _ (kind : Kind) (e : Envelope) (cs : List (List ℕ)) (used n : ℕ) wher
       taken-run t r cs'' ran =
           let q = there-true t in
           let rooms : roomOf cs ≡ roomOf cs' = λ j. record { entries = sym (ch Nothing .room) j; copies = 65535 } in
-          let on : (last : LastMessage) (a : Actor) → taking kind e cmds cs used w last a ≡ runPart (roomOf cs') (e .dst) cmds (partIn kind (lastAfter kind e last) cs' (s .used) w a) =
-          λ last a. ap (λ (o : Outcome Net). bind o (λ m. runPart (roomOf cs) (e .dst) cmds (record { net = m; actor = withTimers (listed w) a }))) (delivered-net q last)
-          ∙ ap (λ (c : Room). runPart c (e .dst) cmds (partIn kind (lastAfter kind e last) cs' (s .used) w a)) rooms in
+          let on : (hall : Around (e .dst)) (last : LastMessage) (a : Actor) → taking kind e cmds cs used w hall last a ≡ runCommands (roomOf cs') (e .dst) cmds (sysIn (e .dst) hall kind (lastAfter kind e last) cs' (s .used) w a) =
+          λ hall last a. ap (λ (o : Outcome Net). bind o (λ m. runCommands (roomOf cs) (e .dst) cmds (holding (e .dst) hall m (withTimers (listed w) a)))) (delivered-net q last)
+          ∙ ap (λ (c : Room). runCommands c (e .dst) cmds (sysIn (e .dst) hall kind (lastAfter kind e last) cs' (s .used) w a)) rooms in
           record {
             room = ran .room ∙ ch Nothing .room;
             ready = ran .ready;
-            runs = λ h last a. on last a ∙ ran .runs h (lastAfter kind e last) a;
-            stops = λ h last a. on last a ∙ ran .stops h (lastAfter kind e last) a ∙ ap (λ (x : Answer). refused (answerNumber x)) (sym (ran .full h));
+            runs = λ h hall last a. on hall last a ∙ ran .runs h hall (lastAfter kind e last) a;
+            stops = λ h hall last a. on hall last a ∙ ran .stops h hall (lastAfter kind e last) a ∙ ap (λ (x : Answer). refused (answerNumber x)) (sym (ran .full h));
             same = λ h. absurd (not-both (there kind e cs used) q h);
           }
 
@@ -174,7 +175,7 @@ module _ (kind : Kind) (e : Envelope) (cmds : List Command) (cs : List (List ℕ
     stops = taken .stops;
   }
 
-  never : (o : Outcome Part) (p : Part) (k : ℕ) → o ≡ done p → o ≡ refused k → ⊥
+  never : (o : Outcome Sys) (p : Sys) (k : ℕ) → o ≡ done p → o ≡ refused k → ⊥
   never o p k a b = let z : _≡_ {A = ℕ} 0 1 = cc in omega arith
 
   pub back-roomy : used + sent cmds ≤ length cs → n + sent cmds ≤ 65535 → Delivered kind e cmds cs used n w r cs'
@@ -193,12 +194,13 @@ module _ (kind : Kind) (e : Envelope) (cmds : List Command) (cs : List (List ℕ
             stops = taken .stops;
           }
       go false true p q =
+          let hall = some-hall (e .dst) in
           let m = netOf kind Nothing cs used in
           let u = used-is cs used n (ready .laid) in
           let v = ready .laid .sum in
           let x = fewer-entries e m in
           let y = fewer-messages e m in
-          let g = runs (roomOf cs) (e .dst) cmds (record { net = delivering e m; actor = withTimers (listed w) (unstarted []) }) (omega arith) (omega arith) in
-          absurd (never (taking kind e cmds cs used w Nothing (unstarted [])) (g .part) _
-          (ap (λ (o : Outcome Net). bind o (λ i. runPart (roomOf cs) (e .dst) cmds (record { net = i; actor = withTimers (listed w) (unstarted []) }))) (deliver-is kind e cs used n Nothing ∙ ap (λ (b : Bool). guard b 3 (done (delivering e m))) q) ∙ g .done-is)
-          (taken .stops p Nothing (unstarted [])))
+          let g = runs (roomOf cs) (e .dst) cmds (holding (e .dst) hall (delivering e m) (withTimers (listed w) (unstarted []))) (omega arith) (omega arith) in
+          absurd (never (taking kind e cmds cs used w hall Nothing (unstarted [])) (g .sys) _
+          (ap (λ (o : Outcome Net). bind o (λ i. runCommands (roomOf cs) (e .dst) cmds (holding (e .dst) hall i (withTimers (listed w) (unstarted []))))) (deliver-is kind e cs used n Nothing ∙ ap (λ (b : Bool). guard b 3 (done (delivering e m))) q) ∙ g .done-is)
+          (taken .stops p hall Nothing (unstarted [])))

@@ -27,19 +27,20 @@ use Rattle.rules.specs.Inner.{told}
 use Rattle.rules.specs.Outcome.{Outcome, done, refused, bind, Room}
 use Rattle.rules.specs.Network.{Net, send, len}
 use Rattle.rules.specs.Link.{Durable, Command, Set, Cancel, Send, Save, process}
-use Rattle.rules.specs.System.{Actor, unstarted}
-use Rattle.parts.specs.Parts.{Part, netIn, runPart}
+use Rattle.rules.specs.System.{Actor, Sys, unstarted, withNet, runCommands}
+use Rattle.sys_seat.specs.Seat.{Around}
+use Rattle.sys_seat.proofs.Seats.{some-hall}
+use Rattle.sys_seat.proofs.Rooms.{sent, sent-asked, Runs, runs}
 use Rattle.net_rows.specs.declared.Sent.{Sent}
 use Rattle.net_rows.specs.Views.{entryList, netOf, roomOf, NetReady, Changed}
 use Rattle.net_rows.proofs.Ready.{send-ready}
 use Rattle.net_rows.proofs.Laws.{used-is}
 use Rattle.link_direct.specs.Direct.{asked, sends}
 use Rattle.link_direct.proofs.Laws.{Goes, goes, no-numbers, no-places}
-use Rattle.link_direct.proofs.Apart.{sent, sent-asked, Runs, runs}
 use Rattle.link_tables.specs.Rows.{RowLaid, orders, commandsIn}
 use Rattle.answers.specs.Answers.{isDone}
 use Rattle.sys_emits.specs.declared.Emitted.{Emitted}
-use Rattle.sys_emits.specs.Views.{partIn, Ran}
+use Rattle.sys_emits.specs.Views.{sysIn, Ran}
 use Rattle.sys_emits.proofs.Laws.{take-first, not-both, sent-full, sent-on, sent-stops}
 use Rattle.sys_reacts.specs.declared.First.{First}
 use Rattle.sys_reacts.specs.declared.First.the-variants as first
@@ -105,12 +106,12 @@ module _ (i : Id) (d : Durable) (room : ℕ) (os : List InnerCommand) (a : Answe
 -- ---- an Ack in front
 module _ (kind : Kind) (me source : Id) (cs : List (List ℕ)) (used n w next limit : ℕ) (ready : NetReady kind cs used n) (os : List InnerCommand) where
   pub ran-none : (front : List Command) → limit ≡ 0 → Ran kind me (take limit (front ++ asked next os)) cs used w (record { answer = Done; used = used; len = n; timers = w; next = next; left = 0 }) cs
-  unfolding runPart
+  unfolding runCommands
   ran-none front e = rw e (record {
     room = refl;
     full = λ h. absurd (not-both (isDone Done) refl h);
     ready = λ h. ready;
-    runs = λ h last a. refl;
+    runs = λ h hall last a. refl;
     stops = λ h. absurd (not-both (isDone Done) refl h);
   })
 
@@ -128,28 +129,28 @@ module _ (kind : Kind) (me source : Id) (cs : List (List ℕ)) (used n w next li
     acked-ready = send-ready kind last.Nothing cs used n ready s cs' _ (ch last.Nothing)
 
     pub ran-unacked : isDone (s .answer) ≡ false → Ran kind me (take limit (frontOf source f ++ asked next os)) cs used w (record { answer = s .answer; used = used; len = n; timers = w; next = next; left = limit }) cs'
-    unfolding runPart netIn
+    unfolding runCommands withNet
     ran-unacked g = record {
       room = ch last.Nothing .room;
-      full = sent-full kind last.Nothing cs used n _ s cs' (unstarted []) w (ch last.Nothing);
+      full = sent-full kind last.Nothing cs used n _ s cs' (ch last.Nothing);
       ready = λ h. absurd (not-both (isDone (s .answer)) h g);
       runs = λ h. absurd (not-both (isDone (s .answer)) h g);
-      stops = λ h last a. ap (λ (l : List Command). runPart (roomOf cs) me l (partIn kind last cs used w a)) cmds ∙ sent-stops kind last cs used n _ s cs' a w (ch last) _ h;
+      stops = λ h hall last a. ap (λ (l : List Command). runCommands (roomOf cs) me l (sysIn me hall kind last cs used w a)) cmds ∙ sent-stops kind last cs used n _ s cs' (ch last) _ h;
     }
 
     pub ran-acked : isDone (s .answer) ≡ true → (r : Emitted) (cs'' : List (List ℕ)) → Ran kind me (take (limit - 1) (asked next os)) cs' (s .used) w r cs'' → Ran kind me (take limit (frontOf source f ++ asked next os)) cs used w r cs''
-    unfolding runPart netIn
+    unfolding runCommands withNet
     ran-acked g r cs'' ran =
         let rooms : roomOf cs ≡ roomOf cs' = λ j. record { entries = sym (ch last.Nothing .room) j; copies = 65535 } in
-        let on : (last : LastMessage) (a : Actor) → runPart (roomOf cs) me (take limit (frontOf source f ++ asked next os)) (partIn kind last cs used w a) ≡ runPart (roomOf cs') me (take (limit - 1) (asked next os)) (partIn kind last cs' (s .used) w a) =
-        λ last a. ap (λ (l : List Command). runPart (roomOf cs) me l (partIn kind last cs used w a)) cmds ∙ sent-on kind last cs used n _ s cs' a w (ch last) _ g
-        ∙ ap (λ (c : Room). runPart c me (take (limit - 1) (asked next os)) (partIn kind last cs' (s .used) w a)) rooms in
+        let on : (hall : Around me) (last : LastMessage) (a : Actor) → runCommands (roomOf cs) me (take limit (frontOf source f ++ asked next os)) (sysIn me hall kind last cs used w a) ≡ runCommands (roomOf cs') me (take (limit - 1) (asked next os)) (sysIn me hall kind last cs' (s .used) w a) =
+        λ hall last a. ap (λ (l : List Command). runCommands (roomOf cs) me l (sysIn me hall kind last cs used w a)) cmds ∙ sent-on kind last cs used n _ s cs' (ch last) _ g
+        ∙ ap (λ (c : Room). runCommands c me (take (limit - 1) (asked next os)) (sysIn me hall kind last cs' (s .used) w a)) rooms in
         record {
           room = ran .room ∙ ch last.Nothing .room;
           full = ran .full;
           ready = ran .ready;
-          runs = λ h last a. on last a ∙ ran .runs h last a;
-          stops = λ h last a. on last a ∙ ran .stops h last a;
+          runs = λ h hall last a. on hall last a ∙ ran .runs h hall last a;
+          stops = λ h hall last a. on hall last a ∙ ran .stops h hall last a;
         }
 
 -- ---- how many are sent
@@ -220,7 +221,7 @@ module _ (kind : Kind) (me : Id) (cmds : List Command) (cs : List (List ℕ)) (u
     stops = ran .stops;
   }
 
-  never : (o : Outcome Part) (p : Part) → o ≡ done p → o ≡ refused 8 → ⊥
+  never : (o : Outcome Sys) (p : Sys) → o ≡ done p → o ≡ refused 8 → ⊥
   never o p a b = let z : _≡_ {A = ℕ} 0 1 = cc in omega arith
 
   pub safe-roomy : used + sent cmds ≤ length cs → n + sent cmds ≤ 65535 → Safe kind me cmds cs used n w r cs'
@@ -229,11 +230,12 @@ module _ (kind : Kind) (me : Id) (cmds : List Command) (cs : List (List ℕ)) (u
       go : (b : Bool) → isDone (r .answer) ≡ b → isDone (r .answer) ≡ true
       go true e = e
       go false e =
-          let p = partIn kind last.Nothing cs used w (unstarted []) in
+          let hall = some-hall me in
+          let p = sysIn me hall kind last.Nothing cs used w (unstarted []) in
           let u = used-is cs used n (ready .laid) in
           let v = ready .laid .sum in
           let g = runs (roomOf cs) me cmds p (omega arith) (omega arith) in
-          absurd (never _ (g .part) (g .done-is) (ran .stops e last.Nothing (unstarted [])))
+          absurd (never _ (g .sys) (g .done-is) (ran .stops e hall last.Nothing (unstarted [])))
 
 pub few-sent : (source : Id) (f : First) (next limit k : ℕ) (os : List InnerCommand) → k ≡ sends os → sent (take limit (frontOf source f ++ asked next os)) ≤ k + 1
 few-sent source f next limit k os e =

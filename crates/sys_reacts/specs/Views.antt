@@ -19,12 +19,12 @@ use Rattle.rules.specs.Outcome.{Outcome, done, refused, bind, Limits}
 use Rattle.rules.specs.Network.{isDuplicating, present, onDeliver}
 use Rattle.link_timers.specs.Views.{listed}
 use Rattle.rules.specs.Link.{Command, Send}
-use Rattle.rules.specs.System.{Actor, withTimers}
-use Rattle.parts.specs.Parts.{Part, runPart}
+use Rattle.rules.specs.System.{Actor, Sys, withTimers, runCommands}
+use Rattle.sys_seat.specs.Seat.{Around, holding}
 use Rattle.net_rows.specs.Views.{netOf, roomOf, NetReady}
 use Rattle.answers.specs.Answers.{isDone}
 use Rattle.sys_emits.specs.declared.Emitted.{Emitted}
-use Rattle.sys_emits.specs.Views.{partIn}
+use Rattle.sys_emits.specs.Views.{sysIn}
 use Rattle.sys_reacts.specs.declared.First.{First}
 use Rattle.sys_reacts.specs.declared.First.the-variants.{Nothing, Acked}
 
@@ -49,16 +49,17 @@ pub record Safe (kind : Kind) (me : Id) (cmds : List Command) (cs : List (List �
   pub ready : NetReady kind cs' (r .used) (r .len)
   pub full : isDone (r .answer) ≡ false → r .answer ≡ NetworkFull
   pub kept : isDone (r .answer) ≡ false → (cs' ≡ cs) × (r .used ≡ used) × (r .len ≡ n) × (r .timers ≡ w)
-  pub runs : isDone (r .answer) ≡ true → (last : LastMessage) (a : Actor) → runPart (roomOf cs) me cmds (partIn kind last cs used w a) ≡ done (partIn kind last cs' (r .used) (r .timers) a)
-  pub stops : isDone (r .answer) ≡ false → (last : LastMessage) (a : Actor) → runPart (roomOf cs) me cmds (partIn kind last cs used w a) ≡ refused 8
+  pub runs : isDone (r .answer) ≡ true → (hall : Around me) (last : LastMessage) (a : Actor) → runCommands (roomOf cs) me cmds (sysIn me hall kind last cs used w a) ≡ done (sysIn me hall kind last cs' (r .used) (r .timers) a)
+  pub stops : isDone (r .answer) ≡ false → (hall : Around me) (last : LastMessage) (a : Actor) → runCommands (roomOf cs) me cmds (sysIn me hall kind last cs used w a) ≡ refused 8
 
 -- The last message after a delivery.
 unfoldable pub lastAfter : Kind → Envelope → LastMessage → LastMessage
 lastAfter k e l = choose (isDuplicating k) (Got e) l
 
 -- A delivery and the commands after it.
-abbrev pub taking : Kind → Envelope → List Command → List (List ℕ) → ℕ → ℕ → LastMessage → Actor → Outcome Part
-taking kind e cmds cs used w last a = bind (onDeliver e (netOf kind last cs used)) (λ n. runPart (roomOf cs) (e .dst) cmds (record { net = n; actor = withTimers (listed w) a }))
+abbrev pub taking : Kind → (e : Envelope) → List Command → List (List ℕ) → ℕ → ℕ → Around (e .dst) → LastMessage → Actor → Outcome Sys
+taking kind e cmds cs used w hall last a =
+    bind (onDeliver e (netOf kind last cs used)) (λ n. runCommands (roomOf cs) (e .dst) cmds (holding (e .dst) hall n (withTimers (listed w) a)))
 
 -- The message is there to be delivered: else 3.
 unfoldable pub there : Kind → Envelope → List (List ℕ) → ℕ → Bool
@@ -68,8 +69,8 @@ there kind e cs used = isDuplicating kind || present e (netOf kind Nowhere cs us
 pub record Taken (kind : Kind) (e : Envelope) (cmds : List Command) (cs : List (List ℕ)) (used n w : ℕ) (r : Emitted) (cs' : List (List ℕ)) : Type 0 where
   pub room : length cs' ≡ length cs
   pub ready : isDone (r .answer) ≡ true → NetReady kind cs' (r .used) (r .len)
-  pub runs : isDone (r .answer) ≡ true → (last : LastMessage) (a : Actor) → taking kind e cmds cs used w last a ≡ done (partIn kind (lastAfter kind e last) cs' (r .used) (r .timers) a)
-  pub stops : isDone (r .answer) ≡ false → (last : LastMessage) (a : Actor) → taking kind e cmds cs used w last a ≡ refused (answerNumber (r .answer))
+  pub runs : isDone (r .answer) ≡ true → (hall : Around (e .dst)) (last : LastMessage) (a : Actor) → taking kind e cmds cs used w hall last a ≡ done (sysIn (e .dst) hall kind (lastAfter kind e last) cs' (r .used) (r .timers) a)
+  pub stops : isDone (r .answer) ≡ false → (hall : Around (e .dst)) (last : LastMessage) (a : Actor) → taking kind e cmds cs used w hall last a ≡ refused (answerNumber (r .answer))
   pub same : there kind e cs used ≡ false → (cs' ≡ cs) × (r .used ≡ used) × (r .len ≡ n) × (r .timers ≡ w)
 
 -- The same, put back.
@@ -77,5 +78,5 @@ pub record Delivered (kind : Kind) (e : Envelope) (cmds : List Command) (cs : Li
   pub room : length cs' ≡ length cs
   pub ready : NetReady kind cs' (r .used) (r .len)
   pub kept : isDone (r .answer) ≡ false → (cs' ≡ cs) × (r .used ≡ used) × (r .len ≡ n) × (r .timers ≡ w)
-  pub runs : isDone (r .answer) ≡ true → (last : LastMessage) (a : Actor) → taking kind e cmds cs used w last a ≡ done (partIn kind (lastAfter kind e last) cs' (r .used) (r .timers) a)
-  pub stops : isDone (r .answer) ≡ false → (last : LastMessage) (a : Actor) → taking kind e cmds cs used w last a ≡ refused (answerNumber (r .answer))
+  pub runs : isDone (r .answer) ≡ true → (hall : Around (e .dst)) (last : LastMessage) (a : Actor) → taking kind e cmds cs used w hall last a ≡ done (sysIn (e .dst) hall kind (lastAfter kind e last) cs' (r .used) (r .timers) a)
+  pub stops : isDone (r .answer) ≡ false → (hall : Around (e .dst)) (last : LastMessage) (a : Actor) → taking kind e cmds cs used w hall last a ≡ refused (answerNumber (r .answer))

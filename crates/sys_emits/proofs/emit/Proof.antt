@@ -23,7 +23,7 @@ shared-slice-read-n : tie.Need-shared-slice-read-n Inv-loop μ-loop
 shared-slice-read-n c = let z = c .before .before .pre .1 .room in search needs
 
 loop-holds : tie.Need-loop-holds Inv-loop μ-loop
-loop-holds c = let s = c .before .before in (omega arith, record { room = refl; ready = s .pre .0; number = s .pre .2; goal = λ last a. refl })
+loop-holds c = let s = c .before .before in (omega arith, record { room = refl; ready = s .pre .0; number = s .pre .2; goal = λ hall last a. refl })
 
 same-length : tie.Need-same-length Inv-loop μ-loop
 same-length c = search needs
