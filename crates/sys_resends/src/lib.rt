@@ -1,4 +1,4 @@
-// Every pending message is sent again, in place. After an 8 the cells are the caller's to put back.
+// Every pending message is sent again, in place, at most so many of them. After an 8 the cells are the caller's to put back.
 use answers::is_done;
 use sys_emits::Emitted;
 use net_rows::Sent;
@@ -52,14 +52,26 @@ pub fn resend(
     me: Id,
     pend: &[[u64; 3]],
     n: usize,
+    limit: usize,
 ) -> Emitted
     requires { ⌜ NetReady kind (now c) used len × (n ≤ length (now pend)) × Sendable (now pend) n ⌝ }
-    ensures { λ r. ⌜ Ran kind me (resent (map pendingIn (take n (now (pend .entry))))) (now (c .entry)) used timers r (now (c .exit)) ⌝ }
+    ensures { λ r. ⌜ Ran kind me (take limit (resent (map pendingIn (take n (now (pend .entry)))))) (now (c .entry)) used timers r (now (c .exit)) ⌝ }
 {
     let mut u = used;
     let mut l = len;
+    let mut k = limit;
     let mut i = 0;
     while i < n {
+        if k == 0 {
+            return Emitted {
+                answer: Answer::Done,
+                used: u,
+                len: l,
+                timers: timers,
+                next: 0,
+                left: k,
+            };
+        }
         let s = resend_one(c, kind, u, l, me, pend[i][0], pend[i][1], pend[i][2]);
         let a = s.answer;
         if !is_done(a) {
@@ -69,11 +81,12 @@ pub fn resend(
                 len: l,
                 timers: timers,
                 next: 0,
-                left: 0,
+                left: k,
             };
         }
         u = s.used;
         l = s.len;
+        k -= 1;
         i += 1;
     }
     Emitted {
@@ -82,6 +95,6 @@ pub fn resend(
         len: l,
         timers: timers,
         next: 0,
-        left: 0,
+        left: k,
     }
 }
