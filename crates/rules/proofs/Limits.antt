@@ -24,7 +24,7 @@ use Rattle.rules.specs.Inner.{zeroSlot, slotsOf}
 use Rattle.rules.specs.Link.{Durable, fresh, Send, Save, Sent, output}
 use Rattle.rules.specs.System.{Actor, Sys, withStorage, withMark}
 use Rattle.rules.specs.WellFormed.{sound, wellFormed}
-use Rattle.rules.specs.Start.{startable}
+use Rattle.rules.specs.Start.{Setup, startable}
 use Rattle.rules.specs.Script.{versions}
 use Rattle.rules.specs.Program.{decimal, replayed, replay}
 use Rattle.rules.specs.Sheet.{id, msg, ack, env, pending, ruleBy, ruleOf, net, live, sys, two, lastTakenIs, a, b}
@@ -62,6 +62,9 @@ toSource d = rule.Send true (id d) false (record { 0 = 7 })
 
 abbrev inState : ℕ → Actor
 inState n = record { rules = []; crashed = false; timers = []; link = record { durable = fresh; state = n }; storage = none }
+
+abbrev kinded : ℕ → Setup
+kinded k = record { kind = k }
 
 abbrev alone : Net → Actor → Sys
 alone n x = record { net = n; actors = x ∷ [] }
@@ -118,14 +121,14 @@ pub record Limits : Type 0 where
   pub unused-zero : sound (unused (rule.SetTimer 0)) ≡ true
   pub four-places : slotsOf [] ≡ zeroSlot ∷ zeroSlot ∷ zeroSlot ∷ zeroSlot ∷ []
   -- a start: actors 1 and 0, 8 and 9, kinds 2 and 3, sources up to the actor count
-  pub actor-1 : startable 0 ([] ∷ []) [] ≡ true
-  pub actor-0 : startable 0 [] [] ≡ false
-  pub actor-8 : startable 0 (replicate 8 []) [] ≡ true
-  pub actor-9 : startable 0 (replicate 9 []) [] ≡ false
-  pub kind-2 : startable 2 ([] ∷ []) [] ≡ true
-  pub kind-3 : startable 3 ([] ∷ []) [] ≡ false
-  pub source-0 : startable 0 ([] ∷ []) (env 0 9 (ack 1) ∷ []) ≡ true
-  pub source-1 : startable 0 ([] ∷ []) (env 1 0 (ack 1) ∷ []) ≡ false
+  pub actor-1 : startable (kinded 0) ([] ∷ []) [] ≡ true
+  pub actor-0 : startable (kinded 0) [] [] ≡ false
+  pub actor-8 : startable (kinded 0) (replicate 8 []) [] ≡ true
+  pub actor-9 : startable (kinded 0) (replicate 9 []) [] ≡ false
+  pub kind-2 : startable (kinded 2) ([] ∷ []) [] ≡ true
+  pub kind-3 : startable (kinded 3) ([] ∷ []) [] ≡ false
+  pub source-0 : startable (kinded 0) ([] ∷ []) (env 0 9 (ack 1) ∷ []) ≡ true
+  pub source-1 : startable (kinded 0) ([] ∷ []) (env 1 0 (ack 1) ∷ []) ≡ false
   -- a system: the same limits, and timers 31 and 32
   pub holds-128 : wellFormed base (sys Ordered (replicate 128 a) (two [] fresh)) ≡ true
   pub holds-129 : wellFormed base (sys Ordered (replicate 129 a) (two [] fresh)) ≡ false
