@@ -22,7 +22,7 @@ use Rattle.types.specs.declared.Order.{Order}
 use Rattle.types.specs.declared.Order.the-variants.{Less, Equal, Greater}
 use Rattle.types.specs.Order.{cmpN, pickO, andThen, tagOf, numberOf, payloadOf, cmpEnvelope, cmpFlow, isLess, isEqual, same}
 use Rattle.types.proofs.Laws.{andThen-assoc, andThen-equal}
-use Rattle.net_cells.specs.Cells.{headWith, cellOf, messageOf, entryOf, cmpCell, flowOf}
+use Rattle.net_cells.specs.Cells.{tags, headWith, cellOf, messageOf, entryOf, cmpCell, flowOf}
 
 -- ---- two numbers
 abbrev Says : ℕ → ℕ → Order → Type 0
@@ -51,7 +51,7 @@ pub greater : (a b : ℕ) → b < a → cmpN a b ≡ Greater
 greater a b h = simp (le-ltb a b (omega arith), lt-ltb b a h)
 
 -- ---- the order
-module _ (s d t s' d' t' : ℕ) (hd : d < 256) (ht : t < 2) (hd' : d' < 256) (ht' : t' < 2) where
+module _ (s d t s' d' t' : ℕ) (hd : d < 256) (ht : t < tags) (hd' : d' < 256) (ht' : t' < tags) where
   pub head-order : cmpN (headWith s d t) (headWith s' d' t') ≡ andThen (cmpN s s') (andThen (cmpN d d') (cmpN t t'))
   head-order = go (cmpN s s') refl (cmpN d d') refl (cmpN t t') refl
     where
@@ -64,7 +64,7 @@ module _ (s d t s' d' t' : ℕ) (hd : d < 256) (ht : t < 2) (hd' : d' < 256) (ht
       go Equal e Equal f Greater g = greater (headWith s d t) (headWith s' d' t') (omega (arith, by s s' Equal e, by d d' Equal f, by t t' Greater g))
       go Equal e Equal f Equal g = equal (headWith s d t) (headWith s' d' t') (omega (arith, by s s' Equal e, by d d' Equal f, by t t' Equal g))
 
-tag-few : (m : Message) → tagOf m < 2
+tag-few : (m : Message) → tagOf m < tags
 tag-few (Deliver n p) = omega arith
 tag-few (Ack n) = omega arith
 
@@ -109,15 +109,15 @@ unfolding entryOf cellOf
 back x h =
     let t = tag-few (x .envelope .msg) in
     let h0 = headWith (x .envelope .src .0) (x .envelope .dst .0) (tagOf (x .envelope .msg)) in
-    let a : h0 / 512 ≡ x .envelope .src .0 = omega arith in
-    let b : h0 / 2 % 256 ≡ x .envelope .dst .0 = omega arith in
-    let c : h0 % 2 ≡ tagOf (x .envelope .msg) = omega arith in
+    let a : h0 / (256 * tags) ≡ x .envelope .src .0 = omega arith in
+    let b : h0 / tags % 256 ≡ x .envelope .dst .0 = omega arith in
+    let c : h0 % tags ≡ tagOf (x .envelope .msg) = omega arith in
     let m = ap (λ (k : ℕ). messageOf k (numberOf (x .envelope .msg)) (payloadOf (x .envelope .msg))) c ∙ message-back (x .envelope .msg) in
     λ i. record { envelope = record { src = record { 0 = a i }; dst = record { 0 = b i }; msg = m i }; count = x .count }
 
 pub narrow : (c : List ℕ) → Narrow (entryOf c)
 unfolding entryOf
-narrow c = mod-lt (getD c 0 0 / 2) (zero-lt-suc 255)
+narrow c = mod-lt (getD c 0 0 / tags) (zero-lt-suc 255)
 
 pub narrow-all : (cs : List (List ℕ)) → All Narrow (map entryOf cs)
 narrow-all [] = tt

@@ -6,13 +6,16 @@ ghost use mathlib.Core.Path.{_≡_};
 ghost use Prim.Native.Nat.{_<_};
 ghost use Rattle.rules.specs.Network.{single};
 ghost use Rattle.types.specs.Order.{isLess, isEqual};
-ghost use Rattle.net_cells.specs.Cells.{headWith, cellOf, cmpCell};
+ghost use Rattle.net_cells.specs.Cells.{tags, headWith, cellOf, cmpCell};
+
+// The tags that a head has room for: 0 is a Deliver, 1 an Ack.
+pub const TAGS: u64 = 4;
 
 fn head_with(src: u8, dst: u8, tag: u64) -> u64
-    requires { ⌜ tag < 2 ⌝ }
+    requires { ⌜ tag < tags ⌝ }
     ensures { λ r. ⌜ r ≡ headWith src dst tag ⌝ }
 {
-    ((src as u64) * 256 + (dst as u64)) * 2 + tag
+    ((src as u64) * 256 + (dst as u64)) * TAGS + tag
 }
 
 // An envelope once.

@@ -23,6 +23,7 @@ use Rattle.types.specs.declared.LastMessage.{LastMessage}
 use Rattle.answers.specs.declared.Answer.{Answer}
 use Rattle.answers.specs.declared.Answer.the-variants.{Done, NetworkFull}
 use Rattle.answers.specs.Answers.{answerOf}
+use Rattle.types.specs.Capacities.{mostCopies}
 use Rattle.types.specs.Order.{tagOf, numberOf, payloadOf}
 use Rattle.rules.specs.Outcome.{Outcome, done, refused, guard, Room}
 use Rattle.rules.specs.Network.{Net, single, again, lowered, fits, len}
@@ -31,7 +32,7 @@ use Rattle.net_entries.proofs.Tests.{all-ins, all-set}
 use Rattle.net_cells.specs.Cells.{cellOf, entryOf}
 use Rattle.net_cells.proofs.Laws.{Narrow, back-all, narrow, narrow-all}
 use Rattle.net_rows.specs.declared.Sent.{Sent}
-use Rattle.net_rows.specs.Views.{entryList, netOf, roomOf, NetLaid, Holds, Left, Changed}
+use Rattle.net_rows.specs.Views.{entryList, netOf, roomOf, mostRoom, NetLaid, Holds, Left, Changed}
 use Rattle.net_rows.specs.Parts.{envelopeIn, Alone, netWith, fitting, takenAt}
 
 -- ---- maps and places
@@ -102,10 +103,10 @@ len-set at a [] h = absurd (not-suc-le-zero h)
 len-set zero a (x ∷ l) h = omega arith
 len-set (suc at) a (x ∷ l) h = omega (arith, len-set at a l (le-of-suc-le-suc h))
 
-len-most : (l : List Entry) → all (λ x. leb (x .count) 65535) l ≡ true → len l ≤ 65535 * length l
+len-most : (l : List Entry) → all (λ x. leb (x .count) mostCopies) l ≡ true → len l ≤ mostCopies * length l
 unfolding len all
 len-most [] h = omega arith
-len-most (x ∷ l) h = let z = and-both (leb (x .count) 65535) _ h in omega (arith, leb-true (x .count) 65535 (z .0), len-most l (z .1))
+len-most (x ∷ l) h = let z = and-both (leb (x .count) mostCopies) _ h in omega (arith, leb-true (x .count) mostCopies (z .0), len-most l (z .1))
 
 len-some : (at : ℕ) (l : List Entry) → at < length l → getD l at zeroEntry .count ≤ len l
 len-some at l h = omega (arith, len-del at l h)
@@ -166,7 +167,7 @@ module _ (cs : List (List ℕ)) (used n : ℕ) (laid : NetLaid cs used n) where
   pub at-count : (i : ℕ) → i < used → getD (getD cs i []) 3 0 ≡ getD l i zeroEntry .count
   at-count i h = ap (λ (x : List ℕ). getD x 3 0) (at-cell i h) ∙ cell-count (getD l i zeroEntry)
 
-  pub len-small : n ≤ 4294967296
+  pub len-small : n ≤ mostCopies * mostRoom
   len-small = omega (arith, laid .sum, len-most l (laid .counts), used-is, laid .fit, laid .room)
 
   pub len-holds : (i : ℕ) → i < used → getD (getD cs i []) 3 0 ≤ n
@@ -200,7 +201,7 @@ module _ (cs : List (List ℕ)) (used n : ℕ) (laid : NetLaid cs used n) where
         let s : n + 1 ≡ len grown = omega (arith, laid .sum, len-ins at (single (envelopeIn k)) l (omega arith)) in
         let q : take (used + 1) cs' ≡ map cellOf grown = p .0 ∙ ap₂ (λ (x : List ℕ) (m : List (List ℕ)). ins at x m) alone (laid .cells) ∙ map-ins cellOf at (single (envelopeIn k)) l in
         changed-done cs used n _ (netWith kind last grown)
-        (fitting-done (roomOf cs) kind last grown (omega arith) (all-ins (λ x. leb (x .count) 65535) at (single (envelopeIn k)) l (laid .counts) ∙ le-leb 1 65535 (omega arith)))
+        (fitting-done (roomOf cs) kind last grown (omega arith) (all-ins (λ x. leb (x .count) mostCopies) at (single (envelopeIn k)) l (laid .counts) ∙ le-leb 1 mostCopies (omega arith)))
         cs' (p .1) (used + 1) (n + 1)
         (holds cs' (used + 1) (n + 1) grown (omega (arith, p .1)) q (ins-all Narrow at (single (envelopeIn k)) l (narrow k) (narrow-all (take used cs))) s)
 
@@ -230,7 +231,7 @@ module _ (cs : List (List ℕ)) (used n : ℕ) (laid : NetLaid cs used n) where
     abbrev more : List Entry
     more = set l at (again UnorderedNonDuplicating (getD l at zeroEntry))
 
-    pub count-full : 65535 ≤ getD (getD cs at []) 3 0 → Changed cs used n (fitting (roomOf cs) UnorderedNonDuplicating last more) (record { answer = NetworkFull; used = used; len = n }) cs
+    pub count-full : mostCopies ≤ getD (getD cs at []) 3 0 → Changed cs used n (fitting (roomOf cs) UnorderedNonDuplicating last more) (record { answer = NetworkFull; used = used; len = n }) cs
     unfolding again
     count-full g =
         let v = used-is in
@@ -238,10 +239,10 @@ module _ (cs : List (List ℕ)) (used n : ℕ) (laid : NetLaid cs used n) where
         let y = again UnorderedNonDuplicating (getD l at zeroEntry) in
         changed-not cs used n _ 8
         (fitting-many (roomOf cs) UnorderedNonDuplicating last more (omega (arith, length-set l at y, laid .fit))
-        (all-set (λ x. leb (x .count) 65535) at y l (omega arith) (laid .counts) ∙ lt-leb (suc (getD l at zeroEntry .count)) 65535 (omega arith)))
+        (all-set (λ x. leb (x .count) mostCopies) at y l (omega arith) (laid .counts) ∙ lt-leb (suc (getD l at zeroEntry .count)) mostCopies (omega arith)))
         NetworkFull full-is
 
-    pub count-done : getD (getD cs at []) 3 0 < 65535
+    pub count-done : getD (getD cs at []) 3 0 < mostCopies
         → Changed cs used n (fitting (roomOf cs) UnorderedNonDuplicating last more) (record { answer = Done; used = used; len = n + 1 }) (set cs at (set (getD cs at []) 3 (getD (getD cs at []) 3 0 + 1)))
     unfolding again
     count-done g =
@@ -251,7 +252,7 @@ module _ (cs : List (List ℕ)) (used n : ℕ) (laid : NetLaid cs used n) where
         let z : getD (getD cs at []) 3 0 + 1 ≡ suc (getD l at zeroEntry .count) = omega arith in
         rw z (changed-done cs used n _ (netWith UnorderedNonDuplicating last more)
         (fitting-done (roomOf cs) UnorderedNonDuplicating last more (omega (arith, length-set l at y, laid .fit))
-        (all-set (λ x. leb (x .count) 65535) at y l (omega arith) (laid .counts) ∙ le-leb (suc (getD l at zeroEntry .count)) 65535 (omega arith)))
+        (all-set (λ x. leb (x .count) mostCopies) at y l (omega arith) (laid .counts) ∙ le-leb (suc (getD l at zeroEntry .count)) mostCopies (omega arith)))
         _ (length-set cs at _) used (n + 1) (recounted at h (λ e. suc (e .count)) (n + 1) (omega arith)))
 
   -- ---- one copy less

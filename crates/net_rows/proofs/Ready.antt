@@ -17,6 +17,7 @@ use Rattle.types.specs.declared.Entry.{Entry}
 use Rattle.types.specs.declared.Kind.{Kind}
 use Rattle.types.specs.declared.LastMessage.{LastMessage}
 use Rattle.types.specs.declared.LastMessage.the-variants.{Delivered}
+use Rattle.types.specs.Capacities.{mostCopies}
 use Rattle.types.specs.Order.{same}
 use Rattle.rules.specs.Outcome.{Outcome, done, refused, guard, Room}
 use Rattle.rules.specs.Network.{Net, put, sending, fits, send, lowered, fewer, remove, dropping, delivering, isDuplicating, onDeliver, onDrop}
@@ -29,14 +30,14 @@ use Rattle.net_rows.specs.Views.{entryList, netOf, roomOf, NetLaid, NetR
 -- The order and the counts of the rules' network.
 pub record Orderly (m : Net) : Type 0 where
   pub order : chain (inOrder (m .kind)) (m .entries) ≡ true
-  pub counts : all (λ x. leb (x .count) 65535) (m .entries) ≡ true
+  pub counts : all (λ x. leb (x .count) mostCopies) (m .entries) ≡ true
 
-lowered-room : (y x : Entry) → x ∈ fewer y → leb (y .count) 65535 ≡ true → leb (x .count) 65535 ≡ true
+lowered-room : (y x : Entry) → x ∈ fewer y → leb (y .count) mostCopies ≡ true → leb (x .count) mostCopies ≡ true
 unfolding fewer lowered
-lowered-room y x i h = ⊎-elim (λ t. absurd (List·Memᴰ·not-nil (t .1))) (λ t. let w : x ≡ lowered y = List·Memᴰ·eq-of-singleton (t .1) in let z = leb-true (y .count) 65535 h in rw w (le-leb (y .count - 1) 65535 (omega arith))) (in-choose _ _ _ i)
+lowered-room y x i h = ⊎-elim (λ t. absurd (List·Memᴰ·not-nil (t .1))) (λ t. let w : x ≡ lowered y = List·Memᴰ·eq-of-singleton (t .1) in let z = leb-true (y .count) mostCopies h in rw w (le-leb (y .count - 1) mostCopies (omega arith))) (in-choose _ _ _ i)
 
 module _ (m : Net) (o : Orderly m) (e : Envelope) where
-  pub sends : (n : ℕ) → fits (record { entries = n; copies = 65535 }) (sending e m) ≡ true → Orderly (sending e m)
+  pub sends : (n : ℕ) → fits (record { entries = n; copies = mostCopies }) (sending e m) ≡ true → Orderly (sending e m)
   unfolding fits sending put
   sends n h = let z = and-both (leb (length (sending e m .entries)) n) _ h in record {
     order = is-chain _ _ (place-chain (inOrder (m .kind)) _ _ _ _ (net-places (m .kind) e) (m .entries) (chain-is _ _ (o .order)));

@@ -10,6 +10,7 @@ use Rattle.lists.specs.Lists.{all, chain}
 use Rattle.types.specs.declared.Entry.{Entry}
 use Rattle.types.specs.declared.Kind.{Kind}
 use Rattle.types.specs.declared.LastMessage.{LastMessage}
+use Rattle.types.specs.Capacities.{mostCopies}
 use Rattle.answers.specs.declared.Answer.the-variants.{Done}
 use Rattle.answers.specs.Answers.{answerOf}
 use Rattle.rules.specs.Outcome.{Outcome, done, refused, Room}
@@ -28,14 +29,18 @@ netOf k last cs used = record { kind = k; entries = entryList cs used; last = la
 
 -- The room is the slice's.
 abbrev pub roomOf : List (List ℕ) → Room
-roomOf cs = record { entries = length cs; copies = 65535 }
+roomOf cs = record { entries = length cs; copies = mostCopies }
+
+-- The widest slice whose messages are counted.
+abbrev pub mostRoom : ℕ
+mostRoom = 65536
 
 -- Each used cell is that of an entry, no count is past the room, and the messages are counted.
 pub record NetLaid (cs : List (List ℕ)) (used n : ℕ) : Type 0 where
   pub fit : used ≤ length cs
-  pub room : length cs ≤ 65536
+  pub room : length cs ≤ mostRoom
   pub cells : take used cs ≡ map cellOf (entryList cs used)
-  pub counts : all (λ x. leb (x .count) 65535) (entryList cs used) ≡ true
+  pub counts : all (λ x. leb (x .count) mostCopies) (entryList cs used) ≡ true
   pub sum : n ≡ len (entryList cs used)
 
 -- What the changes of a network ask. A well-formed network is so.

@@ -10,6 +10,7 @@ use net_slots::remove_at;
 use answers::Answer;
 use types::Envelope;
 use types::Kind;
+use types::MOST_COPIES;
 ghost use mathlib.Core.Path.{_≡_};
 ghost use mathlib.Core.Bool.{true, not};
 ghost use Prim.Native.Nat.{_≤_, _<_};
@@ -58,8 +59,9 @@ fn count_up(c: &mut [[u64; 4]], used: usize, len: u64, at: usize) -> Sent
     requires { ⌜ NetLaid (now c) used len × (at < used) ⌝ }
     ensures { λ r. ⌜ ((last : LastMessage) → Changed (now (c .entry)) used len (fitting (roomOf (now (c .entry))) UnorderedNonDuplicating last (set (entryList (now (c .entry)) used) at (again UnorderedNonDuplicating (getD (entryList (now (c .entry)) used) at zeroEntry)))) r (now (c .exit))) ⌝ }
 {
+    let most = MOST_COPIES as u64;
     let n = c[at][3];
-    if 65535 <= n {
+    if most <= n {
         return Sent {
             answer: Answer::NetworkFull,
             used: used,

@@ -16,7 +16,7 @@ use Rattle.lists.specs.Lists.{chain, lead, ins, del}
 use Rattle.lists.proofs.Sorted.{Sorted, sorted-at, chain-sorted}
 use Rattle.lists.proofs.Places.{del-end, lead-le, lead-pass}
 use Rattle.types.specs.Order.{isLess, isEqual}
-use Rattle.net_cells.specs.Cells.{cmpCell, flowOf}
+use Rattle.net_cells.specs.Cells.{tags, cmpCell, flowOf}
 use Rattle.net_cells.proofs.Laws.{other-head}
 use Rattle.net_slots.specs.declared.Look.the-variants.{BeforeFlow}
 use Rattle.net_slots.specs.Search.{passesOf, Once}
@@ -101,7 +101,7 @@ flows-before k x y e f = lt-ltb (flowOf x) (flowOf k) (omega (arith, leb-true (f
 
 -- another flow, another cell
 pub other-flow : (x k : List ℕ) → (flowOf x ≡ flowOf k → ⊥) → not (isEqual (cmpCell x k)) ≡ true
-other-flow x k h = ap not (sym (other-head x k (λ e. h (ap (λ (n : ℕ). n / 2) e))))
+other-flow x k h = ap not (sym (other-head x k (λ e. h (ap (λ (n : ℕ). n / tags) e))))
 
 abbrev pub differs : List ℕ → List ℕ → Bool
 differs k x = not (isEqual (cmpCell x k))

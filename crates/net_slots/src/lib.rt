@@ -1,5 +1,6 @@
 // The first used cells of a lent slice: places found by halves, a cell put in and taken out, all where they lie. What
 // stands after the used count is not looked at, so that nothing grows with the room.
+use net_cells::TAGS;
 use net_cells::before;
 use net_cells::same;
 ghost use mathlib.Core.Path.{_≡_};
@@ -24,8 +25,8 @@ fn passes(l: Look, x: [u64; 4], k: [u64; 4]) -> bool
 {
     match l {
         Look::Before => before(x, k),
-        Look::UpToFlow => x[0] / 2 <= k[0] / 2,
-        Look::BeforeFlow => x[0] / 2 < k[0] / 2,
+        Look::UpToFlow => x[0] / TAGS <= k[0] / TAGS,
+        Look::BeforeFlow => x[0] / TAGS < k[0] / TAGS,
     }
 }
 
@@ -59,7 +60,7 @@ pub fn first_equal(c: &[[u64; 4]], used: usize, k: [u64; 4]) -> usize
         if same(x, k) {
             return i;
         }
-        if k[0] / 2 < x[0] / 2 {
+        if k[0] / TAGS < x[0] / TAGS {
             return used;
         }
         i += 1;

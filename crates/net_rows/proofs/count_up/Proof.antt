@@ -4,6 +4,9 @@ use borrow.Author.Needs.{needs}
 use Rattle.net_rows.proofs.count_up.Statement.{statement}
 use Rattle.net_rows.proofs.count_up.Tie as tie
 
+cast-most : tie.Need-cast-most
+cast-most c = search needs
+
 mul-n : tie.Need-mul-n
 mul-n c = search needs
 
@@ -28,8 +31,8 @@ index-1-c c = search needs
 index-2-c : tie.Need-index-2-c
 index-2-c c = search needs
 
-add-t10 : tie.Need-add-t10
-add-t10 c = let s = c .before .before in omega (arith, len-small (s .args .c .now) (s .args .used) (s .args .len) (s .pre .0))
+add-t11 : tie.Need-add-t11
+add-t11 c = let s = c .before .before in omega (arith, len-small (s .args .c .now) (s .args .used) (s .args .len) (s .pre .0))
 
 same-length : tie.Need-same-length
 same-length c = search needs
@@ -41,6 +44,7 @@ pub count-up-spec : {M : Type 1} → statement M
 count-up-spec =
     tie.close
     (tie.spec
+    cast-most
     mul-n
     index-1-n
     index-2-n
@@ -49,6 +53,6 @@ count-up-spec =
     mul-c
     index-1-c
     index-2-c
-    add-t10
+    add-t11
     same-length
     returns-2)
