@@ -1,35 +1,29 @@
--- Where the network has room for k more entries and k more copies, k sends are not refused: no 8, so nothing to undo.
+-- Where the network has room for one entry and one copy more, a send is not refused: a send makes at most one of each.
 -- Assumes nothing.
-use Prim.Native.Nat.{ℕ, zero, suc, _+_, _≤_, _<_}
+use Prim.Native.Nat.{ℕ, suc, _+_, _≤_, _<_}
 use native.Mathlib.Omega.{arith}
-use mathlib.Core.Path.{_≡_, refl, sym, ap, _∙_, subst}
-use mathlib.Core.Bool.{Bool, true, false, _&&_}
-use mathlib.Core.List.{List, [], _∷_, _++_}
+use mathlib.Core.Path.{_≡_, refl}
+use mathlib.Core.Bool.{Bool, true, false}
+use mathlib.Core.List.{List, [], _∷_}
 use lib.ListN.{length}
 use lib.Dec.{leb}
 use borrow.Author.Tests.{le-leb}
 use Rattle.lists.specs.Lists.{choose, all, place}
-use Rattle.types.specs.declared.Id.{Id}
 use Rattle.types.specs.declared.Envelope.{Envelope}
 use Rattle.types.specs.declared.Entry.{Entry}
 use Rattle.types.specs.declared.Kind.{Kind}
 use Rattle.types.specs.declared.Kind.the-variants.{Ordered, UnorderedDuplicating, UnorderedNonDuplicating}
-use Rattle.types.specs.declared.Message.the-variants.{Deliver}
-use Rattle.types.specs.declared.InnerCommand.{InnerCommand}
-use Rattle.types.specs.declared.InnerCommand.the-variants as inner
-use Rattle.rules.specs.Outcome.{Outcome, done, refused, bind, guard, Room}
-use Rattle.rules.specs.Network.{Net, single, countedIn, goesBefore, again, put, sending, fits, send, len}
-use Rattle.rules.specs.Link.{posting, withInner}
-use Rattle.link_direct.specs.Direct.{Desk, performing, sends}
+use Rattle.rules.specs.Outcome.{done, guard, Room}
+use Rattle.rules.specs.Network.{Net, single, again, put, sending, fits, send, len}
 
--- ---- one send: at most one entry more, at most one copy more
 module _ (h : Entry → Bool) (m : Entry → Entry) (b : Entry → Bool) (n : Entry) where
   place-length : (l : List Entry) → length (place h m b n l) ≤ suc (length l)
   unfolding place choose
   place-length [] = omega arith
   place-length (x ∷ l) = go (h x) (b x) (place-length l)
     where
-      go : (t u : Bool) → length (place h m b n l) ≤ suc (length l) → length (choose t (m x ∷ l) (choose u (n ∷ x ∷ l) (x ∷ place h m b n l))) ≤ suc (suc (length l))
+      go : (t u : Bool) → length (place h m b n l) ≤ suc (length l)
+          → length (choose t (m x ∷ l) (choose u (n ∷ x ∷ l) (x ∷ place h m b n l))) ≤ suc (suc (length l))
       go true u k = omega arith
       go false true k = omega arith
       go false false k = omega arith
@@ -39,7 +33,8 @@ module _ (h : Entry → Bool) (m : Entry → Entry) (b : Entry → Bool) (n : En
   place-len one up [] = omega arith
   place-len one up (x ∷ l) = go (h x) (b x) (place-len one up l)
     where
-      go : (t u : Bool) → len (place h m b n l) ≤ suc (len l) → len (choose t (m x ∷ l) (choose u (n ∷ x ∷ l) (x ∷ place h m b n l))) ≤ suc (x .count + len l)
+      go : (t u : Bool) → len (place h m b n l) ≤ suc (len l)
+          → len (choose t (m x ∷ l) (choose u (n ∷ x ∷ l) (x ∷ place h m b n l))) ≤ suc (x .count + len l)
       go true u k = omega (arith, up x)
       go false true k = omega arith
       go false false k = omega arith
@@ -71,22 +66,3 @@ send-goes c e n h k =
     let q = put-len (n .kind) e (n .entries) in
     let w = counts-few (c .copies) (put (n .kind) e (n .entries)) (omega arith) in
     rw (le-leb (length (put (n .kind) e (n .entries))) (c .entries) (omega arith), w)
-
--- ---- all sends of a reaction
-pub record Performs (c : Room) (i : Id) (os : List InnerCommand) (x : Desk) : Type 0 where
-  pub desk : Desk
-  pub done-is : performing c i os x ≡ done desk
-
-pub performs : (c : Room) (i : Id) (os : List InnerCommand) (x : Desk) → length (x .net .entries) + sends os ≤ c .entries → len (x .net .entries) + sends os ≤ c .copies → Performs c i os x
-unfolding performing sends bind sending
-performs c i [] x h k = record { desk = x; done-is = refl }
-performs c i (inner.SetTimer t ∷ os) x h k = let g = performs c i os _ h k in record { desk = g .desk; done-is = g .done-is }
-performs c i (inner.CancelTimer t ∷ os) x h k = let g = performs c i os _ h k in record { desk = g .desk; done-is = g .done-is }
-performs c i (inner.Save v ∷ os) x h k = let g = performs c i os (record { net = x .net; timers = x .timers; durable = withInner v (x .durable) }) h k in record { desk = g .desk; done-is = g .done-is }
-performs c i (inner.Send r p ∷ os) x h k =
-    let e : Envelope = record { src = i; dst = r; msg = Deliver (x .durable .next) p } in
-    let a = put-length (x .net .kind) e (x .net .entries) in
-    let b = put-len (x .net .kind) e (x .net .entries) in
-    let s = send-goes c e (x .net) (omega arith) (omega arith) in
-    let g = performs c i os (record { net = sending e (x .net); timers = x .timers; durable = posting r p (x .durable) }) (omega arith) (omega arith) in
-    record { desk = g .desk; done-is = rw s (g .done-is) }
