@@ -1,5 +1,6 @@
 // What a rule's commands make of the durable part, in place: sends become pending, values are saved. Network and timers are not
 // touched.
+use link_rows::RECORD;
 use link_rows::post;
 use link_rows::save_value;
 use link_tables::command_at;
@@ -9,14 +10,14 @@ ghost use mathlib.Core.Path.{_≡_};
 ghost use mathlib.Core.List.{List, [], _∷_};
 ghost use Prim.Native.Nat.{_+_, _≤_, _<_};
 ghost use lib.ListN.{length, getD};
-ghost use Rattle.link_rows.specs.Rows.{durableIn};
+ghost use Rattle.link_rows.specs.Rows.{rowSize, durableIn};
 ghost use Rattle.link_direct.specs.Direct.{noted, sends};
 ghost use Rattle.link_tables.specs.Rows.{RowLaid, orders};
 ghost use Rattle.link_notes.specs.Views.{Noted};
 
 // One inner command.
-fn note_one(live: &mut [u64], pend: &mut [[u64; 3]], x: InnerCommand)
-    requires { ⌜ (length (now live) ≡ 16) × (getD (now live) 1 0 + sends (x ∷ []) ≤ length (now pend)) × (getD (now live) 0 0 + sends (x ∷ []) ≤ 18446744073709551615) ⌝ }
+fn note_one(live: &mut [u64], pend: &mut [[u64; RECORD]], x: InnerCommand)
+    requires { ⌜ (length (now live) ≡ rowSize) × (getD (now live) 1 0 + sends (x ∷ []) ≤ length (now pend)) × (getD (now live) 0 0 + sends (x ∷ []) ≤ 18446744073709551615) ⌝ }
     ensures { λ _. ⌜ Noted (x ∷ []) (now (live .entry)) (now (pend .entry)) (now (live .exit)) (now (pend .exit)) ⌝ }
 {
     match x {
@@ -28,8 +29,8 @@ fn note_one(live: &mut [u64], pend: &mut [[u64; 3]], x: InnerCommand)
 }
 
 // The commands of a rule's row.
-pub fn note(live: &mut [u64], pend: &mut [[u64; 3]], row: &[u64], source: Id, value: u32)
-    requires { ⌜ RowLaid (now row) × (length (now live) ≡ 16) × (getD (now live) 1 0 + sends (orders (now row) source value) ≤ length (now pend)) × (getD (now live) 0 0 + sends (orders (now row) source value) ≤ 18446744073709551615) ⌝ }
+pub fn note(live: &mut [u64], pend: &mut [[u64; RECORD]], row: &[u64], source: Id, value: u32)
+    requires { ⌜ RowLaid (now row) × (length (now live) ≡ rowSize) × (getD (now live) 1 0 + sends (orders (now row) source value) ≤ length (now pend)) × (getD (now live) 0 0 + sends (orders (now row) source value) ≤ 18446744073709551615) ⌝ }
     ensures { λ _. ⌜ Noted (orders (now (row .entry)) source value) (now (live .entry)) (now (pend .entry)) (now (live .exit)) (now (pend .exit)) ⌝ }
 {
     let n = row[5] as usize;

@@ -15,14 +15,14 @@ use Rattle.types.specs.declared.Number.{Number}
 use Rattle.types.specs.declared.Pending.{Pending}
 use Rattle.types.specs.declared.Storage.{Storage}
 use Rattle.rules.specs.Link.{Durable, numbered, posting, withInner, without, acked}
-use Rattle.link_rows.specs.Rows.{pendingIn, numberIn, storageIn, durableIn, other}
+use Rattle.link_rows.specs.Rows.{rowSize, pendingIn, numberIn, storageIn, durableIn, other}
 
 map-snoc : {A B : Type 0} (f : A → B) (l : List A) (a : A) → map f (l ++ a ∷ []) ≡ map f l ++ f a ∷ []
 map-snoc f [] a = refl
 map-snoc {B = B} f (x ∷ l) a = ap (λ (r : List B). f x ∷ r) (map-snoc f l a)
 
 -- Two words that are set, one after the other, and the words beside them.
-module _ (w : List ℕ) (i j a b : ℕ) (room : length w ≡ 16) (hi : i < 8) (hj : j < 8) (ne : i ≡ j → ⊥) where
+module _ (w : List ℕ) (i j a b : ℕ) (room : length w ≡ rowSize) (hi : i < 8) (hj : j < 8) (ne : i ≡ j → ⊥) where
   abbrev w' : List ℕ
   w' = set (set w i a) j b
 
@@ -38,13 +38,13 @@ module _ (w : List ℕ) (i j a b : ℕ) (room : length w ≡ 16) (hi : i < 8) (h
   after : drop 8 w' ≡ drop 8 w
   after = drop-set-lt 8 (set w i a) j b hj ∙ drop-set-lt 8 w i a hi
 
-pub posted : (w : List ℕ) (p : List (List ℕ)) (dst payload : ℕ) → length w ≡ 16 → getD w 1 0 < length p
-    → durableIn (set (set w 0 (getD w 0 0 + 1)) 1 (getD w 1 0 + 1)) (set p (getD w 1 0) (getD w 0 0 ∷ dst ∷ payload ∷ [])) ≡ posting (record { 0 = dst }) (record { 0 = payload }) (durableIn w p)
+pub posted : (w : List ℕ) (p : List (List ℕ)) (dst payload : ℕ) → length w ≡ rowSize → getD w 1 0 < length p
+    → durableIn (set (set w 0 (getD w 0 0 + 1)) 1 (getD w 1 0 + 1)) (set p (getD w 1 0) (getD w 0 0 ∷ dst ∷ payload ∷ 0 ∷ [])) ≡ posting (record { 0 = dst }) (record { 0 = payload }) (durableIn w p)
 unfolding durableIn posting numbered pendingIn
 posted w p dst payload room h =
     let n = getD w 1 0 in
     let v = getD w 0 0 in
-    let q = v ∷ dst ∷ payload ∷ [] in
+    let q = v ∷ dst ∷ payload ∷ 0 ∷ [] in
     let no : _≡_ {A = ℕ} 0 1 → ⊥ = λ e. omega arith in
     let i : 0 < 8 = omega arith in
     let j : 1 < 8 = omega arith in
@@ -64,16 +64,16 @@ low-set w i j a b h k = drop-set-lt 4 (set w i a) j b k ∙ drop-set-lt 4 w i a 
 pub low-one : (w : List ℕ) (i a : ℕ) → i < 4 → drop 4 (set w i a) ≡ drop 4 w
 low-one w i a h = drop-set-lt 4 w i a h
 
-pub count-set : (w : List ℕ) (a : ℕ) → length w ≡ 16 → getD (set w 1 a) 1 0 ≡ a
+pub count-set : (w : List ℕ) (a : ℕ) → length w ≡ rowSize → getD (set w 1 a) 1 0 ≡ a
 count-set w a room = getD-set-same w 1 a 0 (omega arith)
 
-pub posted-count : (w : List ℕ) (a b : ℕ) → length w ≡ 16 → getD (set (set w 0 a) 1 b) 1 0 ≡ b
+pub posted-count : (w : List ℕ) (a b : ℕ) → length w ≡ rowSize → getD (set (set w 0 a) 1 b) 1 0 ≡ b
 posted-count w a b room = set-second w 0 1 a b room (omega arith) (omega arith) (λ e. omega arith)
 
-pub valued-count : (w : List ℕ) (a b : ℕ) → length w ≡ 16 → getD (set (set w 2 a) 3 b) 1 0 ≡ getD w 1 0
+pub valued-count : (w : List ℕ) (a b : ℕ) → length w ≡ rowSize → getD (set (set w 2 a) 3 b) 1 0 ≡ getD w 1 0
 valued-count w a b room = beside w 2 3 a b room (omega arith) (omega arith) (λ e. omega arith) 1 (λ e. omega arith) (λ e. omega arith)
 
-pub valued : (w : List ℕ) (p : List (List ℕ)) (v : ℕ) → length w ≡ 16 → durableIn (set (set w 2 1) 3 v) p ≡ withInner v (durableIn w p)
+pub valued : (w : List ℕ) (p : List (List ℕ)) (v : ℕ) → length w ≡ rowSize → durableIn (set (set w 2 1) 3 v) p ≡ withInner v (durableIn w p)
 unfolding durableIn withInner storageIn
 valued w p v room =
     let no : _≡_ {A = ℕ} 2 3 → ⊥ = λ e. omega arith in
@@ -118,7 +118,7 @@ module _ (n : ℕ) (l : List (List ℕ)) where
       let w = length-map l pendingIn in
       sym (cut-missing (λ q. eqb n (q .number .0)) (λ q. []) (map pendingIn l) (omega arith))
 
-module _ (w : List ℕ) (p : List (List ℕ)) (n : ℕ) (room : length w ≡ 16) (fit : getD w 1 0 ≤ length p) (at : ℕ) (e : at ≡ lead (other n) (take (getD w 1 0) p)) where
+module _ (w : List ℕ) (p : List (List ℕ)) (n : ℕ) (room : length w ≡ rowSize) (fit : getD w 1 0 ≤ length p) (at : ℕ) (e : at ≡ lead (other n) (take (getD w 1 0) p)) where
   pub acked-one : at < getD w 1 0 → (p' : List (List ℕ)) → take (getD w 1 0 - 1) p' ≡ del at (take (getD w 1 0) p) → durableIn (set w 1 (getD w 1 0 - 1)) p' ≡ acked (record { 0 = n }) (durableIn w p)
   unfolding durableIn acked
   acked-one h p' q =

@@ -1,29 +1,34 @@
 // The durable part of an actor as rows of words, lent: a message becomes pending, the inner actor saves a value, a
 // number is acked. A row: next number, count of pending records, whether a value is saved, the value, the count of sources, and from
-// place 8 on the numbers last taken. A pending record: number, destination, payload.
+// place 8 on the numbers last taken. A pending record: number, destination, payload. The other places are free.
 ghost use mathlib.Core.Path.{_≡_};
 ghost use mathlib.Core.List.{List};
 ghost use Prim.Native.Nat.{ℕ, _+_, _-_, _≤_, _<_};
 ghost use lib.ListN.{length, take, drop, getD};
 ghost use Rattle.lists.specs.Lists.{lead, del};
 ghost use Rattle.rules.specs.Link.{posting, withInner, acked};
-ghost use Rattle.link_rows.specs.Rows.{durableIn, other};
+ghost use Rattle.link_rows.specs.Rows.{rowSize, durableIn, other};
+
+// The words of a row and of a pending record: the definitions have them as rowSize and recordSize (specs/Rows).
+pub const ROW: usize = 32;
+
+pub const RECORD: usize = 4;
 
 // A message to `dst` takes the next number and becomes pending.
-pub fn post(live: &mut [u64], pend: &mut [[u64; 3]], dst: u64, payload: u64)
-    requires { ⌜ (length (now live) ≡ 16) × (getD (now live) 1 0 < length (now pend)) × (getD (now live) 0 0 < 18446744073709551615) ⌝ }
+pub fn post(live: &mut [u64], pend: &mut [[u64; RECORD]], dst: u64, payload: u64)
+    requires { ⌜ (length (now live) ≡ rowSize) × (getD (now live) 1 0 < length (now pend)) × (getD (now live) 0 0 < 18446744073709551615) ⌝ }
     ensures { λ _. ⌜ (durableIn (now (live .exit)) (now (pend .exit)) ≡ posting (record { 0 = dst }) (record { 0 = payload }) (durableIn (now (live .entry)) (now (pend .entry)))) × (getD (now (live .exit)) 1 0 ≡ getD (now (live .entry)) 1 0 + 1) × (drop 4 (now (live .exit)) ≡ drop 4 (now (live .entry))) ⌝ }
 {
     let next = live[0];
     let n = live[1];
-    pend[n as usize] = [next, dst, payload];
+    pend[n as usize] = [next, dst, payload, 0];
     live[0] = next + 1;
     live[1] = n + 1;
 }
 
 // The inner actor saves a value.
 pub fn save_value(live: &mut [u64], value: u64)
-    requires { ⌜ length (now live) ≡ 16 ⌝ }
+    requires { ⌜ length (now live) ≡ rowSize ⌝ }
     ensures { λ _. ⌜ ((p : List (List ℕ)) → durableIn (now (live .exit)) p ≡ withInner value (durableIn (now (live .entry)) p)) × (getD (now (live .exit)) 1 0 ≡ getD (now (live .entry)) 1 0) × (drop 4 (now (live .exit)) ≡ drop 4 (now (live .entry))) ⌝ }
 {
     live[2] = 1;
@@ -31,7 +36,7 @@ pub fn save_value(live: &mut [u64], value: u64)
 }
 
 // The place of the pending record with a number, or their count.
-fn pending_place(pend: &[[u64; 3]], used: usize, number: u64) -> usize
+fn pending_place(pend: &[[u64; RECORD]], used: usize, number: u64) -> usize
     requires { ⌜ used ≤ length (now pend) ⌝ }
     ensures { λ r. ⌜ r ≡ lead (other number) (take used (now (pend .entry))) ⌝ }
 {
@@ -46,7 +51,7 @@ fn pending_place(pend: &[[u64; 3]], used: usize, number: u64) -> usize
 }
 
 // What stands at a place is gone; what stood after it goes one place down.
-fn remove_at(pend: &mut [[u64; 3]], used: usize, at: usize)
+fn remove_at(pend: &mut [[u64; RECORD]], used: usize, at: usize)
     requires { ⌜ (at < used) × (used ≤ length (now pend)) ⌝ }
     ensures { λ _. ⌜ take (used - 1) (now (pend .exit)) ≡ del at (take used (now (pend .entry))) ⌝ }
 {
@@ -58,8 +63,8 @@ fn remove_at(pend: &mut [[u64; 3]], used: usize, at: usize)
 }
 
 // A number is acked: its record goes; absent is fine.
-pub fn drop_acked(live: &mut [u64], pend: &mut [[u64; 3]], number: u64)
-    requires { ⌜ (length (now live) ≡ 16) × (getD (now live) 1 0 ≤ length (now pend)) ⌝ }
+pub fn drop_acked(live: &mut [u64], pend: &mut [[u64; RECORD]], number: u64)
+    requires { ⌜ (length (now live) ≡ rowSize) × (getD (now live) 1 0 ≤ length (now pend)) ⌝ }
     ensures { λ _. ⌜ (durableIn (now (live .exit)) (now (pend .exit)) ≡ acked (record { 0 = number }) (durableIn (now (live .entry)) (now (pend .entry)))) × (getD (now (live .exit)) 1 0 ≤ getD (now (live .entry)) 1 0) × (drop 4 (now (live .exit)) ≡ drop 4 (now (live .entry))) ⌝ }
 {
     let n = live[1];

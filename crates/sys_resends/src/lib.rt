@@ -1,5 +1,6 @@
 // Every pending message is sent again, in place, at most so many of them. After an 8 the cells are the caller's to put back.
 use answers::is_done;
+use link_rows::RECORD;
 use sys_emits::Emitted;
 use net_rows::Sent;
 use answers::Answer;
@@ -50,7 +51,7 @@ pub fn resend(
     len: u64,
     timers: u32,
     me: Id,
-    pend: &[[u64; 3]],
+    pend: &[[u64; RECORD]],
     n: usize,
     limit: usize,
 ) -> Emitted

@@ -7,18 +7,19 @@ use mathlib.Core.Option.{Option, none, some}
 use mathlib.Core.List.{List, map}
 use lib.ListN.{length, take, drop, getD, set, length-set}
 use lib.Seq.{getD-set-same, getD-set-other, getD-drop, drop-set-lt}
+use Rattle.types.specs.Capacities.{mostPending, lastState}
 use Rattle.types.specs.declared.Rule.{Rule}
 use Rattle.types.specs.declared.InnerCommand.{InnerCommand}
 use Rattle.rules.specs.Link.{Durable}
 use Rattle.rules.specs.System.{Actor}
 use Rattle.link_timers.specs.Views.{listed}
 use Rattle.link_tables.specs.Rows.{mark}
-use Rattle.link_rows.specs.Rows.{pendingIn, numberIn, storageIn, durableIn}
+use Rattle.link_rows.specs.Rows.{rowSize, pendingIn, numberIn, storageIn, durableIn}
 use Rattle.link_direct.specs.Direct.{noted, sends}
 use Rattle.link_notes.specs.Views.{Noted}
 use Rattle.sys_rows.specs.Rows.{storedIn, actorOf, TailLaid, RowsLaid, Settled}
 
-module _ (w : List ℕ) (i v : ℕ) (room : length w ≡ 16) (h : 4 < i) (k : i < 8) where
+module _ (w : List ℕ) (i v : ℕ) (room : length w ≡ rowSize) (h : 4 < i) (k : i < 8) where
   pub aside : (p : List (List ℕ)) → durableIn (set w i v) p ≡ durableIn w p
   unfolding durableIn
   aside p =
@@ -37,7 +38,7 @@ tail-same : (w w' : List ℕ) → drop 4 w' ≡ drop 4 w → (i : ℕ) → getD 
 tail-same w w' e i = sym (tail-at w' i) ∙ ap (λ (l : List ℕ). getD l i 0) e ∙ tail-at w i
 
 -- The marks are put in place, and the rest is laid out as before.
-module _ (w : List ℕ) (t s : ℕ) (room : length w ≡ 16) (laid : TailLaid (drop 4 w)) (ht : t < 4294967296) (hs : s < 16) where
+module _ (w : List ℕ) (t s : ℕ) (room : length w ≡ rowSize) (laid : TailLaid (drop 4 w)) (ht : t < 4294967296) (hs : s ≤ lastState) where
   abbrev v : List ℕ
   v = set (set w 6 t) 7 s
 
@@ -60,10 +61,10 @@ module _ (w : List ℕ) (t s : ℕ) (room : length w ≡ 16) (laid : TailLaid (d
         rest = λ i a b. tail-at v (4 + i) ∙ at-other (4 + (4 + i)) (λ z. omega arith) (λ z. omega arith) ∙ sym (tail-at w (4 + i)) ∙ laid .rest i (omega arith) b;
       }
 
-pub settled : (os : List InnerCommand) (w : List ℕ) (p : List (List ℕ)) (w1 : List ℕ) (p1 : List (List ℕ)) (t s : ℕ) → RowsLaid w p → Noted os w p w1 p1 → length w1 ≡ 16 → length p1 ≡ 32
-    → getD w 1 0 + sends os ≤ 32 → t < 4294967296 → s < 16 → Settled (noted os (durableIn w p)) t s w (set (set w1 6 t) 7 s) p1
+pub settled : (os : List InnerCommand) (w : List ℕ) (p : List (List ℕ)) (w1 : List ℕ) (p1 : List (List ℕ)) (t s : ℕ) → RowsLaid w p → Noted os w p w1 p1 → length w1 ≡ rowSize → length p1 ≡ mostPending
+    → getD w 1 0 + sends os ≤ mostPending → t < 4294967296 → s ≤ lastState → Settled (noted os (durableIn w p)) t s w (set (set w1 6 t) 7 s) p1
 settled os w p w1 p1 t s laid n r1 r2 few ht hs =
-    let l6 : length (set w1 6 t) ≡ 16 = length-set w1 6 t ∙ r1 in
+    let l6 : length (set w1 6 t) ≡ rowSize = length-set w1 6 t ∙ r1 in
     let tl : TailLaid (drop 4 w1) = rw (n .after) (laid .tail) in
     record {
       durable = aside (set w1 6 t) 7 s l6 (omega arith) (omega arith) p1 ∙ aside w1 6 t r1 (omega arith) (omega arith) p1 ∙ n .durable;
@@ -78,7 +79,7 @@ settled os w p w1 p1 t s laid n r1 r2 few ht hs =
       };
     }
 
-pub settled-low : (d : Durable) (w : List ℕ) (p : List (List ℕ)) (w' : List ℕ) (p' : List (List ℕ)) → RowsLaid w p → durableIn w' p' ≡ d → getD w' 1 0 ≤ getD w 1 0 → drop 4 w' ≡ drop 4 w → length w' ≡ 16 → length p' ≡ 32
+pub settled-low : (d : Durable) (w : List ℕ) (p : List (List ℕ)) (w' : List ℕ) (p' : List (List ℕ)) → RowsLaid w p → durableIn w' p' ≡ d → getD w' 1 0 ≤ getD w 1 0 → drop 4 w' ≡ drop 4 w → length w' ≡ rowSize → length p' ≡ mostPending
     → Settled d (getD w 6 0) (getD w 7 0) w w' p'
 settled-low d w p w' p' laid e few after r1 r2 = record {
   durable = e;

@@ -8,9 +8,10 @@ use mathlib.Core.List.{List, [], _∷_, map}
 use lib.ListN.{length, take, drop, getD, set, length-set, length-drop}
 use lib.Seq.{getD-set-same, getD-set-other, getD-drop, drop-set-lt, drop-set-add}
 use Rattle.lists.specs.Lists.{write}
+use Rattle.types.specs.Capacities.{mostActors}
 use Rattle.types.specs.declared.Number.{Number}
 use Rattle.rules.specs.Link.{Durable, untaken, noteTaken, withTaken}
-use Rattle.link_rows.specs.Rows.{pendingIn, numberIn, storageIn, durableIn}
+use Rattle.link_rows.specs.Rows.{rowSize, pendingIn, numberIn, storageIn, durableIn}
 use Rattle.sys_rows.specs.Rows.{TailLaid, Noticed}
 use Rattle.sys_rows.proofs.Laws.{tail-at}
 
@@ -53,7 +54,7 @@ noticed s v w u low five e t =
 eight : (i : ℕ) → 8 + i ≡ 4 + (4 + i)
 eight i = omega arith
 
-module _ (w : List ℕ) (s v : ℕ) (room : length w ≡ 16) (hs : s < 8) (laid : TailLaid (drop 4 w)) where
+module _ (w : List ℕ) (s v : ℕ) (room : length w ≡ rowSize) (hs : s < mostActors) (laid : TailLaid (drop 4 w)) where
   abbrev u : List ℕ
   u = set w (8 + s) v
 
@@ -63,7 +64,7 @@ module _ (w : List ℕ) (s v : ℕ) (room : length w ≡ 16) (hs : s < 8) (laid 
   pub count-kept : getD u 4 0 ≡ getD w 4 0
   count-kept = other 4 (λ z. omega arith)
 
-  long : length (drop 8 w) ≡ 8
+  long : length (drop 8 w) ≡ rowSize - 8
   long = let z = length-drop 8 w in omega arith
 
   count-of : getD (drop 4 w) 0 0 ≡ getD w 4 0

@@ -5,6 +5,7 @@ use mathlib.Core.Path.{_≡_}
 use mathlib.Core.Option.{Option, none, some}
 use mathlib.Core.List.{List}
 use lib.ListN.{length, drop, getD}
+use Rattle.types.specs.Capacities.{mostPending, mostActors, lastState}
 use Rattle.types.specs.declared.Kind.{Kind}
 use Rattle.types.specs.declared.Rule.{Rule}
 use Rattle.types.specs.declared.LastMessage.{LastMessage}
@@ -15,7 +16,7 @@ use Rattle.parts.specs.Parts.{Part}
 use Rattle.link_timers.specs.Views.{listed}
 use Rattle.net_rows.specs.Views.{netOf}
 use Rattle.link_tables.specs.Rows.{mark}
-use Rattle.link_rows.specs.Rows.{durableIn}
+use Rattle.link_rows.specs.Rows.{rowSize, durableIn}
 use Rattle.link_direct.specs.Direct.{noted}
 
 unfoldable pub storedIn : ℕ → Durable → Option Durable
@@ -37,15 +38,15 @@ wholeOf kind last cs used rs w p k q = record { net = netOf kind last cs used; a
 
 -- From place 4 on: the count of sources, the marks, and the numbers last taken; those that are not counted are 0.
 pub record TailLaid (t : List ℕ) : Type 0 where
-  pub sources : getD t 0 0 ≤ 8
+  pub sources : getD t 0 0 ≤ mostActors
   pub timers : getD t 2 0 < 4294967296
-  pub state : getD t 3 0 < 16
-  pub rest : (i : ℕ) → getD t 0 0 ≤ i → i < 8 → getD t (4 + i) 0 ≡ 0
+  pub state : getD t 3 0 ≤ lastState
+  pub rest : (i : ℕ) → getD t 0 0 ≤ i → i < mostActors → getD t (4 + i) 0 ≡ 0
 
 pub record RowsLaid (w : List ℕ) (p : List (List ℕ)) : Type 0 where
-  pub room : length w ≡ 16
-  pub places : length p ≡ 32
-  pub pending : getD w 1 0 ≤ 32
+  pub room : length w ≡ rowSize
+  pub places : length p ≡ mostPending
+  pub pending : getD w 1 0 ≤ mostPending
   pub tail : TailLaid (drop 4 w)
 
 -- What a handler leaves of the live rows: a durable part, timers and a state.

@@ -1,24 +1,28 @@
 // The rows of one actor: what a handler leaves of the live ones, and all of it stored.
-use link_rows::drop_acked;
 use link_notes::note;
+use link_rows::RECORD;
+use link_rows::ROW;
+use link_rows::drop_acked;
 use types::Id;
+use types::MOST_PENDING;
 ghost use mathlib.Core.Path.{_≡_};
 ghost use Prim.Native.Nat.{_+_, _≤_, _<_};
 ghost use lib.ListN.{length, drop, getD, set};
+ghost use Rattle.types.specs.Capacities.{mostPending, mostActors, lastState};
 ghost use Rattle.rules.specs.Link.{acked};
-ghost use Rattle.link_rows.specs.Rows.{durableIn};
+ghost use Rattle.link_rows.specs.Rows.{rowSize, durableIn};
 ghost use Rattle.link_direct.specs.Direct.{noted, sends};
 ghost use Rattle.link_tables.specs.Rows.{RowLaid, orders};
 ghost use Rattle.sys_rows.specs.Rows.{TailLaid, RowsLaid, Settled, Noticed};
 
 // All of it is stored.
 pub fn store(
-    live: &[u64; 16],
-    pend: &[[u64; 3]; 32],
-    kept: &mut [u64; 16],
-    stored: &mut [[u64; 3]; 32],
+    live: &[u64; ROW],
+    pend: &[[u64; RECORD]; MOST_PENDING],
+    kept: &mut [u64; ROW],
+    stored: &mut [[u64; RECORD]; MOST_PENDING],
 )
-    requires { ⌜ length (now live) ≡ 16 ⌝ }
+    requires { ⌜ length (now live) ≡ rowSize ⌝ }
     ensures { λ _. ⌜ (now (kept .exit) ≡ set (now (live .entry)) 5 1) × (now (stored .exit) ≡ now (pend .entry)) ⌝ }
 {
     *kept = *live;
@@ -28,7 +32,7 @@ pub fn store(
 
 // Timers and state are put in place.
 fn put_marks(live: &mut [u64], timers: u32, state: u64)
-    requires { ⌜ length (now live) ≡ 16 ⌝ }
+    requires { ⌜ length (now live) ≡ rowSize ⌝ }
     ensures { λ _. ⌜ now (live .exit) ≡ set (set (now (live .entry)) 6 timers) 7 state ⌝ }
 {
     live[6] = timers as u64;
@@ -37,15 +41,15 @@ fn put_marks(live: &mut [u64], timers: u32, state: u64)
 
 // A rule's commands are noted, and its timers and state put in place.
 pub fn settle(
-    live: &mut [u64; 16],
-    pend: &mut [[u64; 3]; 32],
+    live: &mut [u64; ROW],
+    pend: &mut [[u64; RECORD]; MOST_PENDING],
     row: &[u64],
     source: Id,
     value: u32,
     timers: u32,
     state: u64,
 )
-    requires { ⌜ RowLaid (now row) × RowsLaid (now live) (now pend) × (state < 16) × (getD (now live) 1 0 + sends (orders (now row) source value) ≤ 32) × (getD (now live) 0 0 + sends (orders (now row) source value) ≤ 18446744073709551615) ⌝ }
+    requires { ⌜ RowLaid (now row) × RowsLaid (now live) (now pend) × (state ≤ lastState) × (getD (now live) 1 0 + sends (orders (now row) source value) ≤ mostPending) × (getD (now live) 0 0 + sends (orders (now row) source value) ≤ 18446744073709551615) ⌝ }
     ensures { λ _. ⌜ Settled (noted (orders (now (row .entry)) source value) (durableIn (now (live .entry)) (now (pend .entry)))) timers state (now (live .entry)) (now (live .exit)) (now (pend .exit)) ⌝ }
 {
     note(live, pend, row, source, value);
@@ -53,7 +57,7 @@ pub fn settle(
 }
 
 // A number is acked.
-pub fn settle_ack(live: &mut [u64; 16], pend: &mut [[u64; 3]; 32], number: u64)
+pub fn settle_ack(live: &mut [u64; ROW], pend: &mut [[u64; RECORD]; MOST_PENDING], number: u64)
     requires { ⌜ RowsLaid (now live) (now pend) ⌝ }
     ensures { λ _. ⌜ Settled (acked (record { 0 = number }) (durableIn (now (live .entry)) (now (pend .entry)))) (getD (now (live .entry)) 6 0) (getD (now (live .entry)) 7 0) (now (live .entry)) (now (live .exit)) (now (pend .exit)) ⌝ }
 {
@@ -62,7 +66,7 @@ pub fn settle_ack(live: &mut [u64; 16], pend: &mut [[u64; 3]; 32], number: u64)
 
 // The number of a message that is taken is noted for its source.
 pub fn take_number(live: &mut [u64], source: u64, number: u64)
-    requires { ⌜ (length (now live) ≡ 16) × (source < 8) × TailLaid (drop 4 (now live)) ⌝ }
+    requires { ⌜ (length (now live) ≡ rowSize) × (source < mostActors) × TailLaid (drop 4 (now live)) ⌝ }
     ensures { λ _. ⌜ Noticed source number (now (live .entry)) (now (live .exit)) ⌝ }
 {
     live[8 + source as usize] = number;

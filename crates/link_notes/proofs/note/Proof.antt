@@ -3,6 +3,7 @@ use native.Mathlib.Omega.{arith}
 use Prim.Native.Nat.{ℕ, suc, _+_, _≤_, _<_, _-_}
 use mathlib.Core.Path.{_≡_, refl, sym, ap, _∙_}
 use lib.ListN.{length, getD, take, drop}
+use Rattle.link_rows.specs.Rows.{rowSize}
 use Rattle.link_tables.specs.Rows.{RowLaid, orders, orderAt}
 use Rattle.link_tables.proofs.Told.{split-at, orders-end}
 use Rattle.link_direct.specs.Direct.{noted, sends}
@@ -12,7 +13,7 @@ use Rattle.link_notes.proofs.note.Tie as tie
 
 abbrev Inv-loop : tie.InvT-loop
 Inv-loop live₀ pend₀ row source value n i₀ live pend i =
-    (i ≤ n) × (length live ≡ 16) × (length pend ≡ length pend₀)
+    (i ≤ n) × (length live ≡ rowSize) × (length pend ≡ length pend₀)
     × Along (orders row source value) live₀ pend₀ live pend (drop i (orders row source value))
 
 abbrev μ-loop : tie.MeasureT-loop

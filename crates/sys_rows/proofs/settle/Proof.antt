@@ -3,9 +3,10 @@ use mathlib.Core.Path.{_≡_, subst, sym}
 use mathlib.Core.List.{List}
 use Prim.Native.Nat.{ℕ, _<_}
 use lib.ListN.{length}
+use Rattle.types.specs.Capacities.{mostPending}
 use Rattle.link_tables.specs.Rows.{orders}
 use Rattle.link_direct.specs.Direct.{noted}
-use Rattle.link_rows.specs.Rows.{durableIn}
+use Rattle.link_rows.specs.Rows.{rowSize, durableIn}
 use Rattle.sys_rows.specs.Rows.{Settled}
 use Rattle.sys_rows.proofs.Laws.{settled}
 use borrow.Author.Needs.{needs}
@@ -19,7 +20,7 @@ put-marks-requires : tie.Need-put-marks-requires
 put-marks-requires c κs = search needs
 
 returns : tie.Need-returns
-returns c = let s = (c .before .before .before .before .before .before) in let a = s .args in let os = orders (a .row .now) (a .source) (a .value) in let w1 = (c .before .before .note) .last .0 in let p1 = (c .before .before .note) .last .1 .0 in let r1 : length w1 ≡ 16 = search (needs, s .pre .1 .room) in let r2 : length p1 ≡ 32 = search (needs, s .pre .1 .places) in let ht : a .timers < 4294967296 = search needs in subst (λ (v : List ℕ). Settled (noted os (durableIn (a .live .now) (a .pend .now))) (a .timers) (a .state) (a .live .now) v p1) (sym ((c .put-marks) .ensures)) (settled os (a .live .now) (a .pend .now) w1 p1 (a .timers) (a .state) (s .pre .1) ((c .before .before .note) .ensures) r1 r2 (s .pre .3) ht (s .pre .2))
+returns c = let s = (c .before .before .before .before .before .before) in let a = s .args in let os = orders (a .row .now) (a .source) (a .value) in let w1 = (c .before .before .note) .last .0 in let p1 = (c .before .before .note) .last .1 .0 in let r1 : length w1 ≡ rowSize = search (needs, s .pre .1 .room) in let r2 : length p1 ≡ mostPending = search (needs, s .pre .1 .places) in let ht : a .timers < 4294967296 = search needs in subst (λ (v : List ℕ). Settled (noted os (durableIn (a .live .now) (a .pend .now))) (a .timers) (a .state) (a .live .now) v p1) (sym ((c .put-marks) .ensures)) (settled os (a .live .now) (a .pend .now) w1 p1 (a .timers) (a .state) (s .pre .1) ((c .before .before .note) .ensures) r1 r2 (s .pre .3) ht (s .pre .2))
 
 pub settle-spec : {M : Type 1} → statement M
 settle-spec = tie.close (tie.spec note-requires put-marks-requires returns)
