@@ -6,6 +6,7 @@ use mathlib.Core.Path.{_≡_, refl, sym, ap, _∙_}
 use mathlib.Core.Bool.{Bool, true, false}
 use mathlib.Core.List.{List, [], _∷_}
 use lib.ListN.{length, take}
+use Rattle.types.specs.Capacities.{mostCopies}
 use Rattle.types.specs.declared.Id.{Id}
 use Rattle.types.specs.declared.Kind.{Kind}
 use Rattle.answers.specs.declared.Answer.the-variants.{Done}
@@ -31,7 +32,7 @@ sends-cons (inner.Save v) os = omega arith
 sends-cons (inner.Send r p) os = omega arith
 
 room-same : (cs cs' : List (List ℕ)) → length cs' ≡ length cs → roomOf cs' ≡ roomOf cs
-room-same cs cs' e = λ j. record { entries = e j; copies = 65535 }
+room-same cs cs' e = λ j. record { entries = e j; copies = mostCopies }
 
 module _ (kind : Kind) (me : Id) (cmds : List Command) (cs₀ : List (List ℕ)) (used w₀ : ℕ) where
   pub record Along (cs : List (List ℕ)) (u l w m k : ℕ) (rest : List InnerCommand) : Type 0 where

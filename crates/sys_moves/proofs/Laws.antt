@@ -9,6 +9,7 @@ use mathlib.Core.List.{List, [], _∷_, _++_, map, append-nil}
 use lib.ListN.{length, take, getD, set, length-map}
 use lib.Seq.{length-take-le}
 use Rattle.lists.specs.Lists.{choose, any}
+use Rattle.types.specs.Capacities.{mostPending, mostCommands, mostTold}
 use Rattle.types.specs.declared.Id.{Id}
 use Rattle.types.specs.declared.Kind.{Kind}
 use Rattle.types.specs.declared.Rule.{Rule}
@@ -20,18 +21,19 @@ use Rattle.answers.specs.Answers.{answerOf, answerNumber}
 use Rattle.rules.specs.Inner.{told}
 use Rattle.rules.specs.Outcome.{Outcome, done, refused, bind}
 use Rattle.rules.specs.Link.{Durable, Command, Save, Output, process, durably, thenSave, output}
-use Rattle.rules.specs.System.{Actor, withTimers, withStorage}
-use Rattle.parts.specs.Parts.{Part, actorIn, runPart}
+use Rattle.rules.specs.System.{Actor, Sys, withTimers, withStorage, runCommands}
+use Rattle.sys_seat.specs.Seat.{Around, holding}
+use Rattle.sys_seat.proofs.Seats.{run-append, run-save}
 use Rattle.link_timers.specs.Views.{listed}
 use Rattle.net_rows.specs.declared.Sent.{Sent}
 use Rattle.net_rows.specs.Views.{netOf, roomOf, NetReady}
 use Rattle.link_direct.specs.Direct.{asked, noted, sends}
 use Rattle.link_direct.proofs.Laws.{Goes, goes}
-use Rattle.link_direct.proofs.Apart.{processed, run-append}
+use Rattle.link_direct.proofs.Apart.{processed}
 use Rattle.link_rows.specs.Rows.{pendingIn, durableIn}
 use Rattle.answers.specs.Answers.{isDone}
 use Rattle.sys_emits.specs.declared.Emitted.{Emitted}
-use Rattle.sys_emits.specs.Views.{partIn}
+use Rattle.sys_emits.specs.Views.{sysIn}
 use Rattle.sys_emits.proofs.Laws.{not-both}
 use Rattle.sys_reacts.specs.Views.{limitsOf, refusalOf, frontOf, Safe}
 use Rattle.sys_reacts.specs.declared.First.the-variants as first
@@ -39,7 +41,7 @@ use Rattle.sys_reacts.proofs.Laws.{goes-on, refuses}
 use Rattle.sys_rows.specs.Rows.{RowsLaid, Settled}
 use Rattle.sys_rows.proofs.Laws.{as-settled, as-stored, stored-laid}
 use Rattle.link_tables.specs.Rows.{RowLaid, orders, commandsIn}
-use Rattle.sys_moves.specs.Views.{actorWith, reacting, Rows, Fine, Acted}
+use Rattle.sys_moves.specs.Views.{Rows, actorWith, running, reacting, Fine, Acted}
 
 -- ---- the durable part's numbers and places
 next-is : (w : List ℕ) (p : List (List ℕ)) → durableIn w p .next .0 ≡ getD w 0 0
@@ -67,7 +69,7 @@ pub refused-output : (me : Id) (d : Durable) (os : List InnerCommand) (room k : 
 unfolding output bind
 refused-output me d os room k f e = rw e
 
--- ---- a limit of 8 is none
+-- ---- where nothing is cut
 pub asked-few : (n : ℕ) (os : List InnerCommand) → length (asked n os) ≤ length os
 unfolding asked
 asked-few n [] = omega arith
@@ -83,115 +85,128 @@ take-all (suc n) [] h = refl
 take-all {A} (suc n) (x ∷ l) h = ap (λ (r : List A). x ∷ r) (take-all n l (omega arith))
 
 -- ---- the end of a run
-module _ (kind : Kind) (me : Id) (os : List InnerCommand) (t s : ℕ) (x : Rows) (used n : ℕ) (fine : Fine kind used n x) where
+module _ (me : Id) (kind : Kind) (os : List InnerCommand) (t s used n : ℕ) (x : Rows) (fine : Fine kind used n x) where
   abbrev w : List ℕ
   w = x .live
 
-  abbrev p : List (List ℕ)
-  p = x .pend
-
   abbrev d : Durable
-  d = durableIn w p
+  d = durableIn w (x .pend)
 
   places : length (d .pending) ≡ getD w 1 0
-  places = let a = fine .live .places in let b = fine .live .pending in places-are w p (omega arith)
+  places = let a = fine .live .places in let b = fine .live .pending in places-are w (x .pend) (omega arith)
 
-  abbrev o : LastMessage → List Rule → Outcome Part
-  o = reacting kind me os t s (x .cells) used w p (x .kept) (x .stored)
+  abbrev o : Around me → LastMessage → List Rule → Outcome Sys
+  o = reacting me kind os t s used x
 
-  module _ (why : Answer) (e : why ≡ answerOf (refusalOf (getD w 0 0) (getD w 1 0) 32 (sends os))) where
-    as-view : why ≡ answerOf (refusalOf (d .next .0) (length (d .pending)) 32 (sends os))
+  -- The actor before its commands run.
+  abbrev b : List Rule → Actor
+  b = λ rs. actorWith rs t (noted os d) s x
+
+  abbrev more : List Command
+  more = choose (any durably os) (Save (noted os d) ∷ []) []
+
+  module _ (why : Answer) (e : why ≡ answerOf (refusalOf (getD w 0 0) (getD w 1 0) mostPending (sends os))) where
+    as-view : why ≡ answerOf (refusalOf (d .next .0) (length (d .pending)) mostPending (sends os))
     unfolding durableIn
-    as-view = e ∙ ap (λ (k : ℕ). answerOf (refusalOf (getD w 0 0) k 32 (sends os))) (sym places)
+    as-view = e ∙ ap (λ (k : ℕ). answerOf (refusalOf (getD w 0 0) k mostPending (sends os))) (sym places)
 
     few-numbers : getD w 0 0 ≤ 18446744073709551615 → d .next .0 ≤ 18446744073709551615
     unfolding durableIn
     few-numbers h = h
 
-    pub enough : getD w 0 0 ≤ 18446744073709551615 → isDone why ≡ true → (getD w 0 0 + sends os ≤ 18446744073709551615) × (getD w 1 0 + sends os ≤ 32)
-    unfolding durableIn
-    enough h g = let z = goes-on me d 32 os why as-view (few-numbers h) (let a = fine .live .pending in let b = places in omega arith) g in (z .0, let a = z .1 in let b = places in omega arith)
+    few-places : length (d .pending) ≤ mostPending
+    few-places = let a = fine .live .pending in let c = places in omega arith
 
-    pub acted-refused : getD w 0 0 ≤ 18446744073709551615 → isDone why ≡ false → Acted o (λ last. last) kind used n x (record { answer = why; used = used; len = n }) x
+    pub enough : getD w 0 0 ≤ 18446744073709551615 → isDone why ≡ true → (getD w 0 0 + sends os ≤ 18446744073709551615) × (getD w 1 0 + sends os ≤ mostPending)
+    unfolding durableIn
+    enough h g = let z = goes-on me d mostPending os why as-view (few-numbers h) few-places g in (z .0, let a = z .1 in let c = places in omega arith)
+
+    pub acted-refused : getD w 0 0 ≤ 18446744073709551615 → isDone why ≡ false
+        → Acted me o (λ last. last) kind used n x (record { answer = why; used = used; len = n }) x
     acted-refused h g = record {
       fine = fine;
       runs = λ a. absurd (not-both (isDone why) a g);
-      stops = λ a last rs. refused-output me d os 32 _ _ (refuses me d 32 os why as-view (few-numbers h) (let a = fine .live .pending in let b = places in omega arith) g);
+      stops = λ a hall last rs. refused-output me d os mostPending _ _ (refuses me d mostPending os why as-view (few-numbers h) few-places g);
       same = λ a. (refl, refl, refl);
     }
 
-  module _ (nums : getD w 0 0 + sends os ≤ 18446744073709551615) (plcs : getD w 1 0 + sends os ≤ 32) (short : length os ≤ 8)
-      (r : Emitted) (cs' : List (List ℕ)) (source : Id) (safe : Safe kind me (take 8 (frontOf source first.Nothing ++ asked (getD w 0 0) os)) (x .cells) used n t r cs') where
-    all-run : take 8 (frontOf source first.Nothing ++ asked (getD w 0 0) os) ≡ asked (getD w 0 0) os
+  module _ (nums : getD w 0 0 + sends os ≤ 18446744073709551615) (plcs : getD w 1 0 + sends os ≤ mostPending) (short : length os ≤ mostCommands)
+      (r : Emitted) (cs' : List (List ℕ)) (source : Id)
+      (safe : Safe kind me (take mostTold (frontOf source first.Nothing ++ asked (getD w 0 0) os)) (x .cells) used n t r cs') where
+    all-run : take mostTold (frontOf source first.Nothing ++ asked (getD w 0 0) os) ≡ asked (getD w 0 0) os
     unfolding frontOf
-    all-run = let z = asked-few (getD w 0 0) os in take-all 8 (asked (getD w 0 0) os) (omega arith)
+    all-run = let z = asked-few (getD w 0 0) os in take-all mostTold (asked (getD w 0 0) os) (omega arith)
 
-    ends : (last : LastMessage) (rs : List Rule) → o last rs ≡ runPart (roomOf (x .cells)) me (asked (getD w 0 0) os ++ choose (any durably os) (Save (noted os d) ∷ []) []) (partIn kind last (x .cells) used t (actorWith rs t (noted os d) s w (x .kept) (x .stored)))
+    ends : (hall : Around me) (last : LastMessage) (rs : List Rule)
+        → o hall last rs ≡ runCommands (roomOf (x .cells)) me (asked (getD w 0 0) os ++ more) (sysIn me hall kind last (x .cells) used t (b rs))
     unfolding durableIn withTimers
-    ends last rs = outputs me d os 32 nums (let a = places in omega arith) _ (λ e cmds. runPart (roomOf (x .cells)) me cmds (record { net = netOf kind last (x .cells) used; actor = actorWith rs t e s w (x .kept) (x .stored) })) (λ a. refl)
+    ends hall last rs = outputs me d os mostPending nums (let a = places in omega arith) _
+        (λ e cmds. running me hall cmds (netOf kind last (x .cells) used) rs t e s x) (λ a. refl)
 
-    pub acted-full : isDone (r .answer) ≡ false → Acted o (λ last. last) kind used n x (record { answer = r .answer; used = r .used; len = r .len }) (record { cells = cs'; live = w; pend = p; kept = x .kept; stored = x .stored })
+    -- The inner actor's commands first, then what is saved.
+    split : (hall : Around me) (last : LastMessage) (rs : List Rule) (y : Outcome Sys)
+        → runCommands (roomOf (x .cells)) me (take mostTold (frontOf source first.Nothing ++ asked (getD w 0 0) os))
+        (sysIn me hall kind last (x .cells) used t (b rs)) ≡ y
+        → o hall last rs ≡ bind y (runCommands (roomOf (x .cells)) me more)
+    split hall last rs y e =
+        ends hall last rs ∙ run-append (roomOf (x .cells)) me (asked (getD w 0 0) os) more _
+        ∙ ap (λ (z : Outcome Sys). bind z (runCommands (roomOf (x .cells)) me more))
+        (ap (λ (cmds : List Command). runCommands (roomOf (x .cells)) me cmds (sysIn me hall kind last (x .cells) used t (b rs))) (sym all-run) ∙ e)
+
+    pub acted-full : isDone (r .answer) ≡ false
+        → Acted me o (λ last. last) kind used n x (record { answer = r .answer; used = r .used; len = r .len })
+        (record { cells = cs'; live = w; pend = x .pend; kept = x .kept; stored = x .stored })
     unfolding bind
     acted-full g =
         let z = safe .kept g in
         record {
           fine = record { net = safe .ready; room = safe .room ∙ fine .room; live = fine .live; kept = fine .kept };
           runs = λ a. absurd (not-both (isDone (r .answer)) a g);
-          stops = λ a last rs.
-              ends last rs ∙ run-append (roomOf (x .cells)) me (asked (getD w 0 0) os) _ _
-              ∙ ap (λ (y : Outcome Part). bind y (runPart (roomOf (x .cells)) me (choose (any durably os) (Save (noted os d) ∷ []) [])))
-              (ap (λ (cmds : List Command). runPart (roomOf (x .cells)) me cmds (partIn kind last (x .cells) used t (actorWith rs t (noted os d) s w (x .kept) (x .stored)))) (sym all-run) ∙ safe .stops g last (actorWith rs t (noted os d) s w (x .kept) (x .stored)))
-              ∙ ap (λ (y : Answer). refused (answerNumber y)) (sym (safe .full g));
-          same = λ a. (λ j. record { cells = z .0 j; live = w; pend = p; kept = x .kept; stored = x .stored }, z .1, z .2);
+          stops = λ a hall last rs. split hall last rs _ (safe .stops g hall last (b rs)) ∙ ap (λ (y : Answer). refused (answerNumber y)) (sym (safe .full g));
+          same = λ a. (λ j. record { cells = z .0 j; live = w; pend = x .pend; kept = x .kept; stored = x .stored }, z .1, z .2);
         }
 
     module _ (t1 : isDone (r .answer) ≡ true) (w' : List ℕ) (p' : List (List ℕ)) (put : Settled (noted os d) (r .timers) s w w' p') where
-      ran : (last : LastMessage) (rs : List Rule) → o last rs ≡ runPart (roomOf (x .cells)) me (choose (any durably os) (Save (noted os d) ∷ []) []) (partIn kind last cs' (r .used) (r .timers) (actorWith rs t (noted os d) s w (x .kept) (x .stored)))
+      ran : (hall : Around me) (last : LastMessage) (rs : List Rule)
+          → o hall last rs ≡ runCommands (roomOf (x .cells)) me more (sysIn me hall kind last cs' (r .used) (r .timers) (b rs))
       unfolding bind
-      ran last rs =
-          ends last rs ∙ run-append (roomOf (x .cells)) me (asked (getD w 0 0) os) _ _
-          ∙ ap (λ (y : Outcome Part). bind y (runPart (roomOf (x .cells)) me (choose (any durably os) (Save (noted os d) ∷ []) [])))
-          (ap (λ (cmds : List Command). runPart (roomOf (x .cells)) me cmds (partIn kind last (x .cells) used t (actorWith rs t (noted os d) s w (x .kept) (x .stored)))) (sym all-run) ∙ safe .runs t1 last (actorWith rs t (noted os d) s w (x .kept) (x .stored)))
+      ran hall last rs = split hall last rs _ (safe .runs t1 hall last (b rs))
 
-      pub acted-plain : any durably os ≡ false → Acted o (λ last. last) kind used n x (record { answer = r .answer; used = r .used; len = r .len }) (record { cells = cs'; live = w'; pend = p'; kept = x .kept; stored = x .stored })
-      unfolding choose runPart withTimers
+      pub acted-plain : any durably os ≡ false
+          → Acted me o (λ last. last) kind used n x (record { answer = r .answer; used = r .used; len = r .len })
+          (record { cells = cs'; live = w'; pend = p'; kept = x .kept; stored = x .stored })
+      unfolding choose runCommands withTimers
       acted-plain f = record {
         fine = record { net = safe .ready; room = safe .room ∙ fine .room; live = put .laid; kept = fine .kept };
-        runs = λ a last rs.
-            ran last rs ∙ ap (λ (b : Bool). runPart (roomOf (x .cells)) me (choose b (Save (noted os d) ∷ []) []) (partIn kind last cs' (r .used) (r .timers) (actorWith rs t (noted os d) s w (x .kept) (x .stored)))) f
-            ∙ ap (λ (a : Actor). done (record { net = netOf kind last cs' (r .used); actor = a })) (sym (as-settled rs (noted os d) (r .timers) s w w' p' put (x .kept) (x .stored)));
+        runs = λ a hall last rs.
+            ran hall last rs
+            ∙ ap (λ (b′ : Bool). runCommands (roomOf (x .cells)) me (choose b′ (Save (noted os d) ∷ []) []) (sysIn me hall kind last cs' (r .used) (r .timers) (b rs))) f
+            ∙ ap (λ (a : Actor). done (holding me hall (netOf kind last cs' (r .used)) a)) (sym (as-settled rs (noted os d) (r .timers) s w w' p' put (x .kept) (x .stored)));
         stops = λ a. absurd (not-both (isDone (r .answer)) t1 a);
         same = λ a. absurd (not-both (isDone (r .answer)) t1 a);
       }
 
-      pub acted-stored : any durably os ≡ true → (k' : List ℕ) (q' : List (List ℕ)) → (k' ≡ set w' 5 1) × (q' ≡ p') → Acted o (λ last. last) kind used n x (record { answer = r .answer; used = r .used; len = r .len }) (record { cells = cs'; live = w'; pend = p'; kept = k'; stored = q' })
-      unfolding choose runPart withTimers withStorage actorIn
-      acted-stored f k' q' e =
-          let z = e in
-          record {
-            fine = record { net = safe .ready; room = safe .room ∙ fine .room; live = put .laid; kept = stored-laid w' k' p' q' (put .laid) (z .0) (z .1) };
-            runs = λ a last rs.
-                ran last rs ∙ ap (λ (b : Bool). runPart (roomOf (x .cells)) me (choose b (Save (noted os d) ∷ []) []) (partIn kind last cs' (r .used) (r .timers) (actorWith rs t (noted os d) s w (x .kept) (x .stored)))) f
-                ∙ ap (λ (a : Actor). done (record { net = netOf kind last cs' (r .used); actor = a })) (sym (as-stored rs (noted os d) (r .timers) s w w' p' put k' q' (z .0) (z .1)));
-            stops = λ a. absurd (not-both (isDone (r .answer)) t1 a);
-            same = λ a. absurd (not-both (isDone (r .answer)) t1 a);
-          }
+      pub acted-stored : any durably os ≡ true → (k' : List ℕ) (q' : List (List ℕ)) → (k' ≡ set w' 5 1) × (q' ≡ p')
+          → Acted me o (λ last. last) kind used n x (record { answer = r .answer; used = r .used; len = r .len })
+          (record { cells = cs'; live = w'; pend = p'; kept = k'; stored = q' })
+      unfolding choose runCommands withTimers withStorage
+      acted-stored f k' q' e = record {
+        fine = record { net = safe .ready; room = safe .room ∙ fine .room; live = put .laid; kept = stored-laid w' k' p' q' (put .laid) (e .0) (e .1) };
+        runs = λ a hall last rs.
+            ran hall last rs
+            ∙ ap (λ (b′ : Bool). runCommands (roomOf (x .cells)) me (choose b′ (Save (noted os d) ∷ []) []) (sysIn me hall kind last cs' (r .used) (r .timers) (b rs))) f
+            ∙ run-save me hall (netOf kind last cs' (r .used)) (withTimers (listed (r .timers)) (b rs)) (roomOf (x .cells)) [] (noted os d)
+            ∙ ap (λ (a : Actor). done (holding me hall (netOf kind last cs' (r .used)) a)) (sym (as-stored rs (noted os d) (r .timers) s w w' p' put k' q' (e .0) (e .1)));
+        stops = λ a. absurd (not-both (isDone (r .answer)) t1 a);
+        same = λ a. absurd (not-both (isDone (r .answer)) t1 a);
+      }
 
--- ---- a row's commands are at most four
-four : (r : List ℕ) → length (commandsIn r) ≡ 4
+-- ---- a row's commands are few
+four : (r : List ℕ) → length (commandsIn r) ≡ mostCommands
 unfolding commandsIn
 four r = refl
 
-pub row-four : (r : List ℕ) (source : Id) (value : ℕ) → RowLaid r → length (orders r source value) ≤ 4
-unfolding orders
-row-four r source value laid =
-    let b = length-map (take (getD r 5 0) (commandsIn r)) (told source value) in
-    let z = four r in
-    let u = laid .used in
-    let c = length-take-le (getD r 5 0) (commandsIn r) (omega arith) in
-    omega arith
-
-pub row-short : (r : List ℕ) (source : Id) (value : ℕ) → RowLaid r → length (orders r source value) ≤ 8
+pub row-short : (r : List ℕ) (source : Id) (value : ℕ) → RowLaid r → length (orders r source value) ≤ mostCommands
 unfolding orders
 row-short r source value laid =
     let b = length-map (take (getD r 5 0) (commandsIn r)) (told source value) in

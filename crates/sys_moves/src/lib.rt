@@ -1,46 +1,49 @@
-// Steps on lent rows: a rule's commands whole, with refusals and what is stored.
-use sys_rows::settle;
-use sys_rows::settle_ack;
-use sys_rows::store;
-use sys_rows::take_number;
+// Steps on lent rows: a rule's commands whole, an Ack, a message that is acked or taken; with refusals, and what is stored.
+use answers::Answer;
 use answers::is_done;
-use sys_emits::Emitted;
+use link_rows::RECORD;
+use link_rows::ROW;
 use net_rows::Sent;
+use sys_emits::Emitted;
 use sys_reacts::First;
 use sys_reacts::deliver_row;
 use sys_reacts::react_row;
 use sys_reacts::refusal;
-use answers::Answer;
+use sys_rows::settle;
+use sys_rows::settle_ack;
+use sys_rows::store;
+use sys_rows::take_number;
 use types::Envelope;
 use types::Id;
 use types::Kind;
+use types::MOST_ENTRIES;
+use types::MOST_PENDING;
+use types::MOST_TOLD;
 use types::Number;
 ghost use mathlib.Core.Path.{_≡_};
-ghost use mathlib.Core.Bool.{true};
+ghost use mathlib.Core.List.{[], _∷_};
 ghost use Prim.Native.Nat.{_+_, _≤_, _<_};
 ghost use lib.ListN.{length, getD, set};
-ghost use lib.Dec.{eqb};
-ghost use Rattle.lists.specs.Lists.{choose, any};
-ghost use Rattle.answers.specs.declared.Answer.the-variants.{Absent};
-ghost use mathlib.Core.List.{[], _∷_};
+ghost use Rattle.lists.specs.Lists.{choose};
+ghost use Rattle.types.specs.Capacities.{mostEntries, mostPending, mostActors, lastState};
 ghost use Rattle.types.specs.declared.Message.the-variants.{Ack};
+ghost use Rattle.answers.specs.declared.Answer.the-variants.{Absent};
+ghost use Rattle.rules.specs.Link.{Send, withTaken};
 ghost use Rattle.net_rows.specs.Views.{NetReady};
-ghost use Rattle.rules.specs.Link.{durably, Send, withTaken};
-ghost use Rattle.parts.specs.Parts.{deliverPart};
-ghost use Rattle.sys_reacts.specs.Views.{lastAfter, there, Delivered};
 ghost use Rattle.link_direct.specs.Direct.{noted, sends};
 ghost use Rattle.link_tables.specs.Rows.{RowLaid, orders};
 ghost use Rattle.link_rows.specs.Rows.{durableIn};
+ghost use Rattle.sys_reacts.specs.Views.{lastAfter, there, Delivered};
 ghost use Rattle.sys_rows.specs.Rows.{RowsLaid, Settled};
-ghost use Rattle.sys_moves.specs.Views.{capsOf, reacting, takingIn, partAt, Fine, Acted};
+ghost use Rattle.sys_moves.specs.Views.{rowsOf, reacting, ackedIn, takenIn, Fine, Acted};
 
 // The commands of a rule's row, with these timers and this state: 6, 7 or 8 and nothing changed, or all of it done.
 pub fn by_rule(
-    c: &mut [[u64; 4]; 128],
-    live: &mut [u64; 16],
-    pend: &mut [[u64; 3]; 32],
-    kept: &mut [u64; 16],
-    stored: &mut [[u64; 3]; 32],
+    c: &mut [[u64; 4]; MOST_ENTRIES],
+    live: &mut [u64; ROW],
+    pend: &mut [[u64; RECORD]; MOST_PENDING],
+    kept: &mut [u64; ROW],
+    stored: &mut [[u64; RECORD]; MOST_PENDING],
     row: &[u64],
     kind: Kind,
     used: usize,
@@ -51,12 +54,15 @@ pub fn by_rule(
     value: u32,
     state: u64,
 ) -> Sent
-    requires { ⌜ Fine kind used len (record { cells = now c; live = now live; pend = now pend; kept = now kept; stored = now stored }) × RowLaid (now row) × (state < 16) × (getD (now row) 14 0 ≡ sends (orders (now row) source value)) × (eqb (getD (now row) 15 0) 1 ≡ any durably (orders (now row) source value)) ⌝ }
-    ensures { λ r. ⌜ Acted (reacting kind me (orders (now (row .entry)) source value) timers state (now (c .entry)) used (now (live .entry)) (now (pend .entry)) (now (kept .entry)) (now (stored .entry))) (λ last. last) kind used len (record { cells = now (c .entry); live = now (live .entry); pend = now (pend .entry); kept = now (kept .entry); stored = now (stored .entry) }) r (record { cells = now (c .exit); live = now (live .exit); pend = now (pend .exit); kept = now (kept .exit); stored = now (stored .exit) }) ⌝ }
+    requires { ⌜ Fine kind used len (rowsOf (now c) (now live) (now pend) (now kept) (now stored)) × RowLaid (now row) × (state ≤ lastState) ⌝ }
+    ensures { λ r. ⌜ Acted me (reacting me kind (orders (now (row .entry)) source value) timers state used
+        (rowsOf (now (c .entry)) (now (live .entry)) (now (pend .entry)) (now (kept .entry)) (now (stored .entry)))) (λ last. last) kind used len
+        (rowsOf (now (c .entry)) (now (live .entry)) (now (pend .entry)) (now (kept .entry)) (now (stored .entry)))
+        r (rowsOf (now (c .exit)) (now (live .exit)) (now (pend .exit)) (now (kept .exit)) (now (stored .exit))) ⌝ }
 {
     let next = live[0];
     let pending = live[1];
-    let why = refusal(next, pending, 32, row[14]);
+    let why = refusal(next, pending, MOST_PENDING as u64, row[14]);
     if !is_done(why) {
         return Sent {
             answer: why,
@@ -75,7 +81,7 @@ pub fn by_rule(
         source,
         value,
         next,
-        8,
+        MOST_TOLD,
         First::Nothing,
     );
     let a = s.answer;
@@ -104,19 +110,22 @@ pub fn by_rule(
 
 // An Ack: its record goes, whoever sent it, and all of it is stored.
 pub fn on_ack(
-    c: &mut [[u64; 4]; 128],
-    live: &mut [u64; 16],
-    pend: &mut [[u64; 3]; 32],
-    kept: &mut [u64; 16],
-    stored: &mut [[u64; 3]; 32],
+    c: &mut [[u64; 4]; MOST_ENTRIES],
+    live: &mut [u64; ROW],
+    pend: &mut [[u64; RECORD]; MOST_PENDING],
+    kept: &mut [u64; ROW],
+    stored: &mut [[u64; RECORD]; MOST_PENDING],
     kind: Kind,
     used: usize,
     len: u64,
     e: Envelope,
     number: Number,
 ) -> Sent
-    requires { ⌜ Fine kind used len (record { cells = now c; live = now live; pend = now pend; kept = now kept; stored = now stored }) × (e .msg ≡ Ack number) ⌝ }
-    ensures { λ r. ⌜ Acted (λ last rs. deliverPart (capsOf (now (c .entry))) e (partAt kind last used rs (record { cells = now (c .entry); live = now (live .entry); pend = now (pend .entry); kept = now (kept .entry); stored = now (stored .entry) }))) (lastAfter kind e) kind used len (record { cells = now (c .entry); live = now (live .entry); pend = now (pend .entry); kept = now (kept .entry); stored = now (stored .entry) }) r (record { cells = now (c .exit); live = now (live .exit); pend = now (pend .exit); kept = now (kept .exit); stored = now (stored .exit) }) ⌝ }
+    requires { ⌜ Fine kind used len (rowsOf (now c) (now live) (now pend) (now kept) (now stored)) ⌝ }
+    ensures { λ r. ⌜ Acted (e .dst) (ackedIn kind e number used
+        (rowsOf (now (c .entry)) (now (live .entry)) (now (pend .entry)) (now (kept .entry)) (now (stored .entry)))) (lastAfter kind e) kind used len
+        (rowsOf (now (c .entry)) (now (live .entry)) (now (pend .entry)) (now (kept .entry)) (now (stored .entry)))
+        r (rowsOf (now (c .exit)) (now (live .exit)) (now (pend .exit)) (now (kept .exit)) (now (stored .exit))) ⌝ }
 {
     let s = net_rows::on_deliver(c, kind, used, len, e);
     let a = s.answer;
@@ -130,7 +139,7 @@ pub fn on_ack(
 
 // A Deliver that is not newer, or that the inner actor ignores: acked, and nothing more.
 pub fn ack_only(
-    c: &mut [[u64; 4]; 128],
+    c: &mut [[u64; 4]; MOST_ENTRIES],
     kind: Kind,
     used: usize,
     len: u64,
@@ -138,19 +147,19 @@ pub fn ack_only(
     e: Envelope,
     number: Number,
 ) -> Emitted
-    requires { ⌜ NetReady kind (now c) used len × (length (now c) ≡ 128) ⌝ }
+    requires { ⌜ NetReady kind (now c) used len × (length (now c) ≡ mostEntries) ⌝ }
     ensures { λ r. ⌜ Delivered kind e (Send (e .src) (Ack number) ∷ []) (now (c .entry)) used len timers r (now (c .exit)) ⌝ }
 {
     let none = [0u64; 16];
-    deliver_row(c, kind, used, len, timers, &none, e, 0, number, 0, 8)
+    deliver_row(c, kind, used, len, timers, &none, e, 0, number, 0, MOST_TOLD)
 }
 
 // What a Deliver that is taken leaves of the actor: its number is noted, the rule's commands too, and all of it is stored.
 fn take_in(
-    live: &mut [u64; 16],
-    pend: &mut [[u64; 3]; 32],
-    kept: &mut [u64; 16],
-    stored: &mut [[u64; 3]; 32],
+    live: &mut [u64; ROW],
+    pend: &mut [[u64; RECORD]; MOST_PENDING],
+    kept: &mut [u64; ROW],
+    stored: &mut [[u64; RECORD]; MOST_PENDING],
     row: &[u64],
     source: Id,
     number: Number,
@@ -158,8 +167,12 @@ fn take_in(
     timers: u32,
     state: u64,
 )
-    requires { ⌜ RowLaid (now row) × RowsLaid (now live) (now pend) × (state < 16) × (source .0 < 8) × (getD (now live) 1 0 + sends (orders (now row) source value) ≤ 32) × (getD (now live) 0 0 + sends (orders (now row) source value) ≤ 18446744073709551615) ⌝ }
-    ensures { λ _. ⌜ Settled (noted (orders (now (row .entry)) source value) (withTaken source number (durableIn (now (live .entry)) (now (pend .entry))))) timers state (now (live .entry)) (now (live .exit)) (now (pend .exit)) × (now (kept .exit) ≡ set (now (live .exit)) 5 1) × (now (stored .exit) ≡ now (pend .exit)) ⌝ }
+    requires { ⌜ RowLaid (now row) × RowsLaid (now live) (now pend) × (state ≤ lastState) × (source .0 < mostActors)
+        × (getD (now live) 1 0 + sends (orders (now row) source value) ≤ mostPending)
+        × (getD (now live) 0 0 + sends (orders (now row) source value) ≤ 18446744073709551615) ⌝ }
+    ensures { λ _. ⌜ Settled (noted (orders (now (row .entry)) source value) (withTaken source number (durableIn (now (live .entry)) (now (pend .entry)))))
+        timers state (now (live .entry)) (now (live .exit)) (now (pend .exit))
+        × (now (kept .exit) ≡ set (now (live .exit)) 5 1) × (now (stored .exit) ≡ now (pend .exit)) ⌝ }
 {
     take_number(live, source.0 as u64, number.0);
     settle(live, pend, row, source, value, timers, state);
@@ -191,11 +204,11 @@ fn when_refused(
 
 // A Deliver that is taken, by a rule's row: 3, 6, 7 or 8 and nothing changed, or all of it done.
 pub fn on_message(
-    c: &mut [[u64; 4]; 128],
-    live: &mut [u64; 16],
-    pend: &mut [[u64; 3]; 32],
-    kept: &mut [u64; 16],
-    stored: &mut [[u64; 3]; 32],
+    c: &mut [[u64; 4]; MOST_ENTRIES],
+    live: &mut [u64; ROW],
+    pend: &mut [[u64; RECORD]; MOST_PENDING],
+    kept: &mut [u64; ROW],
+    stored: &mut [[u64; RECORD]; MOST_PENDING],
     row: &[u64],
     kind: Kind,
     used: usize,
@@ -205,13 +218,17 @@ pub fn on_message(
     value: u32,
     state: u64,
 ) -> Sent
-    requires { ⌜ Fine kind used len (record { cells = now c; live = now live; pend = now pend; kept = now kept; stored = now stored }) × RowLaid (now row) × (state < 16) × (e .src .0 < 8) × (getD (now row) 14 0 ≡ sends (orders (now row) (e .src) value)) ⌝ }
-    ensures { λ r. ⌜ Acted (takingIn kind e number (orders (now (row .entry)) (e .src) value) state (now (c .entry)) used (now (live .entry)) (now (pend .entry)) (now (kept .entry)) (now (stored .entry))) (lastAfter kind e) kind used len (record { cells = now (c .entry); live = now (live .entry); pend = now (pend .entry); kept = now (kept .entry); stored = now (stored .entry) }) r (record { cells = now (c .exit); live = now (live .exit); pend = now (pend .exit); kept = now (kept .exit); stored = now (stored .exit) }) ⌝ }
+    requires { ⌜ Fine kind used len (rowsOf (now c) (now live) (now pend) (now kept) (now stored)) × RowLaid (now row) × (state ≤ lastState)
+        × (e .src .0 < mostActors) ⌝ }
+    ensures { λ r. ⌜ Acted (e .dst) (takenIn kind e number (orders (now (row .entry)) (e .src) value) state used
+        (rowsOf (now (c .entry)) (now (live .entry)) (now (pend .entry)) (now (kept .entry)) (now (stored .entry)))) (lastAfter kind e) kind used len
+        (rowsOf (now (c .entry)) (now (live .entry)) (now (pend .entry)) (now (kept .entry)) (now (stored .entry)))
+        r (rowsOf (now (c .exit)) (now (live .exit)) (now (pend .exit)) (now (kept .exit)) (now (stored .exit))) ⌝ }
 {
     let next = live[0];
     let pending = live[1];
     let timers = live[6] as u32;
-    let why = refusal(next, pending, 32, row[14]);
+    let why = refusal(next, pending, MOST_PENDING as u64, row[14]);
     if !is_done(why) {
         let b = when_refused(c, kind, used, len, e, why);
         return Sent {
@@ -220,7 +237,19 @@ pub fn on_message(
             len: len,
         };
     }
-    let s = deliver_row(c, kind, used, len, timers, row, e, value, number, next, 8);
+    let s = deliver_row(
+        c,
+        kind,
+        used,
+        len,
+        timers,
+        row,
+        e,
+        value,
+        number,
+        next,
+        MOST_TOLD,
+    );
     let a = s.answer;
     if !is_done(a) {
         return Sent {

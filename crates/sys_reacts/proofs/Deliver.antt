@@ -8,6 +8,7 @@ use mathlib.Core.List.{List, [], _∷_, _++_}
 use lib.ListN.{length, take}
 use lib.Dec.{leb}
 use borrow.Author.Tests.{leb-false}
+use Rattle.types.specs.Capacities.{mostCopies}
 use Rattle.lists.specs.Lists.{choose, cut}
 use Rattle.lists.proofs.Members.{cut-length}
 use Rattle.types.specs.declared.Kind.{Kind}
@@ -143,7 +144,7 @@ module _ (kind : Kind) (e : Envelope) (cs : List (List ℕ)) (used n : ℕ) wher
       unfolding bind
       taken-run t r cs'' ran =
           let q = there-true t in
-          let rooms : roomOf cs ≡ roomOf cs' = λ j. record { entries = sym (ch Nothing .room) j; copies = 65535 } in
+          let rooms : roomOf cs ≡ roomOf cs' = λ j. record { entries = sym (ch Nothing .room) j; copies = mostCopies } in
           let on : (hall : Around (e .dst)) (last : LastMessage) (a : Actor) → taking kind e cmds cs used w hall last a ≡ runCommands (roomOf cs') (e .dst) cmds (sysIn (e .dst) hall kind (lastAfter kind e last) cs' (s .used) w a) =
           λ hall last a. ap (λ (o : Outcome Net). bind o (λ m. runCommands (roomOf cs) (e .dst) cmds (holding (e .dst) hall m (withTimers (listed w) a)))) (delivered-net q last)
           ∙ ap (λ (c : Room). runCommands c (e .dst) cmds (sysIn (e .dst) hall kind (lastAfter kind e last) cs' (s .used) w a)) rooms in
@@ -178,7 +179,7 @@ module _ (kind : Kind) (e : Envelope) (cmds : List Command) (cs : List (List ℕ
   never : (o : Outcome Sys) (p : Sys) (k : ℕ) → o ≡ done p → o ≡ refused k → ⊥
   never o p k a b = let z : _≡_ {A = ℕ} 0 1 = cc in omega arith
 
-  pub back-roomy : used + sent cmds ≤ length cs → n + sent cmds ≤ 65535 → Delivered kind e cmds cs used n w r cs'
+  pub back-roomy : used + sent cmds ≤ length cs → n + sent cmds ≤ mostCopies → Delivered kind e cmds cs used n w r cs'
   unfolding guard bind
   back-roomy h k = go (isDone (r .answer)) (there kind e cs used) refl refl
     where

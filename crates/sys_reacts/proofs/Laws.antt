@@ -10,6 +10,7 @@ use lib.ListN.{length, take, getD, length-map}
 use lib.Seq.{length-take-le}
 use lib.Dec.{leb}
 use borrow.Author.Tests.{le-leb, lt-leb, leb-true}
+use Rattle.types.specs.Capacities.{mostCopies}
 use Rattle.lists.specs.Lists.{choose}
 use Rattle.types.specs.declared.Id.{Id}
 use Rattle.types.specs.declared.Number.{Number}
@@ -141,7 +142,7 @@ module _ (kind : Kind) (me source : Id) (cs : List (List ℕ)) (used n w next li
     pub ran-acked : isDone (s .answer) ≡ true → (r : Emitted) (cs'' : List (List ℕ)) → Ran kind me (take (limit - 1) (asked next os)) cs' (s .used) w r cs'' → Ran kind me (take limit (frontOf source f ++ asked next os)) cs used w r cs''
     unfolding runCommands withNet
     ran-acked g r cs'' ran =
-        let rooms : roomOf cs ≡ roomOf cs' = λ j. record { entries = sym (ch last.Nothing .room) j; copies = 65535 } in
+        let rooms : roomOf cs ≡ roomOf cs' = λ j. record { entries = sym (ch last.Nothing .room) j; copies = mostCopies } in
         let on : (hall : Around me) (last : LastMessage) (a : Actor) → runCommands (roomOf cs) me (take limit (frontOf source f ++ asked next os)) (sysIn me hall kind last cs used w a) ≡ runCommands (roomOf cs') me (take (limit - 1) (asked next os)) (sysIn me hall kind last cs' (s .used) w a) =
         λ hall last a. ap (λ (l : List Command). runCommands (roomOf cs) me l (sysIn me hall kind last cs used w a)) cmds ∙ sent-on kind last cs used n _ s cs' (ch last) _ g
         ∙ ap (λ (c : Room). runCommands c me (take (limit - 1) (asked next os)) (sysIn me hall kind last cs' (s .used) w a)) rooms in
@@ -224,7 +225,7 @@ module _ (kind : Kind) (me : Id) (cmds : List Command) (cs : List (List ℕ)) (u
   never : (o : Outcome Sys) (p : Sys) → o ≡ done p → o ≡ refused 8 → ⊥
   never o p a b = let z : _≡_ {A = ℕ} 0 1 = cc in omega arith
 
-  pub safe-roomy : used + sent cmds ≤ length cs → n + sent cmds ≤ 65535 → Safe kind me cmds cs used n w r cs'
+  pub safe-roomy : used + sent cmds ≤ length cs → n + sent cmds ≤ mostCopies → Safe kind me cmds cs used n w r cs'
   safe-roomy h k = safe-done (go (isDone (r .answer)) refl)
     where
       go : (b : Bool) → isDone (r .answer) ≡ b → isDone (r .answer) ≡ true

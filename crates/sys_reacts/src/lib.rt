@@ -7,6 +7,8 @@ use answers::Answer;
 use types::Envelope;
 use types::Id;
 use types::Kind;
+use types::MOST_COPIES;
+use types::MOST_ENTRIES;
 use types::Message;
 use types::Number;
 ghost use mathlib.Core.Path.{_≡_};
@@ -14,6 +16,7 @@ ghost use mathlib.Core.Bool.{true};
 ghost use mathlib.Core.List.{List, [], _∷_, _++_};
 ghost use Prim.Native.Nat.{_+_, _≤_, _<_};
 ghost use lib.ListN.{length, take, getD};
+ghost use Rattle.types.specs.Capacities.{mostEntries, mostCopies};
 ghost use Rattle.answers.specs.Answers.{answerOf};
 ghost use Rattle.net_rows.specs.Views.{NetReady};
 ghost use Rattle.link_direct.specs.Direct.{asked, sends};
@@ -50,16 +53,16 @@ pub fn refusal(next: u64, pending: u64, room: u64, sends: u64) -> Answer
 // Whether so many sends cannot be refused.
 fn roomy(room: usize, used: usize, len: u64, sends: u64) -> bool
     requires { ⌜ used ≤ room ⌝ }
-    ensures { λ r. ⌜ (r ≡ true → (used + sends ≤ room) × (len + sends ≤ 65535)) ⌝ }
+    ensures { λ r. ⌜ (r ≡ true → (used + sends ≤ room) × (len + sends ≤ mostCopies)) ⌝ }
 {
     let places = (room - used) as u64;
     if places < sends {
         return false;
     }
-    if 65535 < len {
+    if (MOST_COPIES as u64) < len {
         return false;
     }
-    sends <= 65535 - len
+    sends <= (MOST_COPIES as u64) - len
 }
 
 // An Ack, where there is one, and the commands of a row: the first `limit` of all these.
@@ -141,7 +144,7 @@ pub fn run_row(
 
 // The same, put back after an 8.
 pub fn react_row(
-    c: &mut [[u64; 4]; 128],
+    c: &mut [[u64; 4]; MOST_ENTRIES],
     kind: Kind,
     used: usize,
     len: u64,
@@ -154,11 +157,11 @@ pub fn react_row(
     limit: usize,
     first: First,
 ) -> Emitted
-    requires { ⌜ NetReady kind (now c) used len × RowLaid (now row) × (next + sends (orders (now row) source value) ≤ 18446744073709551615) × (length (now c) ≡ 128) × (getD (now row) 14 0 ≡ sends (orders (now row) source value)) ⌝ }
+    requires { ⌜ NetReady kind (now c) used len × RowLaid (now row) × (next + sends (orders (now row) source value) ≤ 18446744073709551615) × (length (now c) ≡ mostEntries) ⌝ }
     ensures { λ r. ⌜ Safe kind me (take limit (frontOf source first ++ asked next (orders (now (row .entry)) source value))) (now (c .entry)) used len timers r (now (c .exit)) ⌝ }
 {
     let n = row[14];
-    if roomy(128, used, len, n + 1) {
+    if roomy(MOST_ENTRIES, used, len, n + 1) {
         return run_row(
             c,
             kind,
@@ -253,7 +256,7 @@ fn take_row(
 
 // The same, put back after an 8.
 pub fn deliver_row(
-    c: &mut [[u64; 4]; 128],
+    c: &mut [[u64; 4]; MOST_ENTRIES],
     kind: Kind,
     used: usize,
     len: u64,
@@ -265,11 +268,11 @@ pub fn deliver_row(
     next: u64,
     limit: usize,
 ) -> Emitted
-    requires { ⌜ NetReady kind (now c) used len × RowLaid (now row) × (next + sends (orders (now row) (e .src) value) ≤ 18446744073709551615) × (length (now c) ≡ 128) × (getD (now row) 14 0 ≡ sends (orders (now row) (e .src) value)) ⌝ }
+    requires { ⌜ NetReady kind (now c) used len × RowLaid (now row) × (next + sends (orders (now row) (e .src) value) ≤ 18446744073709551615) × (length (now c) ≡ mostEntries) ⌝ }
     ensures { λ r. ⌜ Delivered kind e (take limit (frontOf (e .src) (Acked number) ++ asked next (orders (now (row .entry)) (e .src) value))) (now (c .entry)) used len timers r (now (c .exit)) ⌝ }
 {
     let n = row[14];
-    if roomy(128, used, len, n + 1) {
+    if roomy(MOST_ENTRIES, used, len, n + 1) {
         return take_row(
             c,
             kind,

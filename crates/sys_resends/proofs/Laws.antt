@@ -8,6 +8,7 @@ use mathlib.Core.Bool.{Bool, true, false}
 use mathlib.Core.List.{List, [], _∷_, map}
 use lib.ListN.{length, take, drop, getD}
 use lib.Seq.{getD-take, length-take-le}
+use Rattle.types.specs.Capacities.{mostCopies}
 use Rattle.types.specs.declared.Id.{Id}
 use Rattle.types.specs.declared.Kind.{Kind}
 use Rattle.types.specs.declared.Pending.{Pending}
@@ -66,7 +67,7 @@ module _ (kind : Kind) (me : Id) (cmds : List Command) (cs₀ : List (List ℕ))
         (ch : (last : LastMessage)
         → Changed cs u l (send (roomOf cs) (record { src = me; dst = q .dst; msg = Deliver (q .number) (q .payload) }) (netOf kind last cs u)) s cs') where
       rooms : roomOf cs₀ ≡ roomOf cs
-      rooms = λ j. record { entries = sym (on .room) j; copies = 65535 }
+      rooms = λ j. record { entries = sym (on .room) j; copies = mostCopies }
 
       abbrev first : Command
       first = Send (q .dst) (Deliver (q .number) (q .payload))

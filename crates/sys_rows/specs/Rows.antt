@@ -1,4 +1,4 @@
--- The actor that four rows are, with its rules; and the part with its network.
+-- The actor that four rows are, with its rules.
 -- Assumes nothing.
 use Prim.Native.Nat.{ℕ, zero, suc, _+_, _≤_, _<_}
 use mathlib.Core.Path.{_≡_}
@@ -6,15 +6,11 @@ use mathlib.Core.Option.{Option, none, some}
 use mathlib.Core.List.{List}
 use lib.ListN.{length, drop, getD}
 use Rattle.types.specs.Capacities.{mostPending, mostActors, lastState}
-use Rattle.types.specs.declared.Kind.{Kind}
 use Rattle.types.specs.declared.Rule.{Rule}
-use Rattle.types.specs.declared.LastMessage.{LastMessage}
 use Rattle.types.specs.declared.InnerCommand.{InnerCommand}
 use Rattle.rules.specs.Link.{Durable, withTaken}
 use Rattle.rules.specs.System.{Actor}
-use Rattle.parts.specs.Parts.{Part}
 use Rattle.link_timers.specs.Views.{listed}
-use Rattle.net_rows.specs.Views.{netOf}
 use Rattle.link_tables.specs.Rows.{mark}
 use Rattle.link_rows.specs.Rows.{rowSize, durableIn}
 use Rattle.link_direct.specs.Direct.{noted}
@@ -32,9 +28,6 @@ actorOf rs w p k q = record {
   link = record { durable = durableIn w p; state = getD w 7 0 };
   storage = storedIn (getD k 5 0) (durableIn k q);
 }
-
-abbrev pub wholeOf : Kind → LastMessage → List (List ℕ) → ℕ → List Rule → List ℕ → List (List ℕ) → List ℕ → List (List ℕ) → Part
-wholeOf kind last cs used rs w p k q = record { net = netOf kind last cs used; actor = actorOf rs w p k q }
 
 -- From place 4 on: the count of sources, the marks, and the numbers last taken; those that are not counted are 0.
 pub record TailLaid (t : List ℕ) : Type 0 where

@@ -26,7 +26,7 @@ take-row-requires : tie.Need-take-row-requires
 take-row-requires c κs = search needs
 
 returns : tie.Need-returns
-returns c = let s = (c .before .before .before .before .before .before) in let a = s .args in let os = orders (a .row .now) (a .e .src) (a .value) in let cmds = take (a .limit) (frontOf (a .e .src) (Acked (a .number)) ++ asked (a .next) os) in let f = few-sent (a .e .src) (Acked (a .number)) (a .next) (a .limit) (getD (a .row .now) 14 0) os (s .pre .4) in let r = (c .before .before .before .roomy) .ensures ((c .before .before .if1) .taken) in let y = s .pre .3 in back-roomy (a .kind) (a .e) cmds (a .c .now) (a .used) (a .len) (a .timers) (s .pre .0) ((c .take-row) .result) ((c .take-row) .last .0) ((c .take-row) .ensures) (omega (arith, r .0)) (omega (arith, r .1))
+returns c = let s = (c .before .before .before .before .before .before) in let a = s .args in let os = orders (a .row .now) (a .e .src) (a .value) in let cmds = take (a .limit) (frontOf (a .e .src) (Acked (a .number)) ++ asked (a .next) os) in let f = few-sent (a .e .src) (Acked (a .number)) (a .next) (a .limit) (getD (a .row .now) 14 0) os (s .pre .1 .sends (a .e .src) (a .value)) in let r = (c .before .before .before .roomy) .ensures ((c .before .before .if1) .taken) in let y = s .pre .3 in back-roomy (a .kind) (a .e) cmds (a .c .now) (a .used) (a .len) (a .timers) (s .pre .0) ((c .take-row) .result) ((c .take-row) .last .0) ((c .take-row) .ensures) (omega (arith, r .0)) (omega (arith, r .1))
 
 take-row-requires-2 : tie.Need-take-row-requires-2
 take-row-requires-2 c κs = search needs

@@ -23,7 +23,7 @@ run-row-requires : tie.Need-run-row-requires
 run-row-requires c κs = search needs
 
 returns : tie.Need-returns
-returns c = let s = (c .before .before .before .before .before .before) in let a = s .args in let os = orders (a .row .now) (a .source) (a .value) in let f = few-sent (a .source) (a .first) (a .next) (a .limit) (getD (a .row .now) 14 0) os (s .pre .4) in let r = (c .before .before .before .roomy) .ensures ((c .before .before .if1) .taken) in let y = s .pre .3 in safe-roomy (a .kind) (a .me) (take (a .limit) (frontOf (a .source) (a .first) ++ asked (a .next) os)) (a .c .now) (a .used) (a .len) (a .timers) (s .pre .0) ((c .run-row) .result) ((c .run-row) .last .0) ((c .run-row) .ensures) (omega (arith, r .0)) (omega (arith, r .1))
+returns c = let s = (c .before .before .before .before .before .before) in let a = s .args in let os = orders (a .row .now) (a .source) (a .value) in let f = few-sent (a .source) (a .first) (a .next) (a .limit) (getD (a .row .now) 14 0) os (s .pre .1 .sends (a .source) (a .value)) in let r = (c .before .before .before .roomy) .ensures ((c .before .before .if1) .taken) in let y = s .pre .3 in safe-roomy (a .kind) (a .me) (take (a .limit) (frontOf (a .source) (a .first) ++ asked (a .next) os)) (a .c .now) (a .used) (a .len) (a .timers) (s .pre .0) ((c .run-row) .result) ((c .run-row) .last .0) ((c .run-row) .ensures) (omega (arith, r .0)) (omega (arith, r .1))
 
 run-row-requires-2 : tie.Need-run-row-requires-2
 run-row-requires-2 c κs = search needs
