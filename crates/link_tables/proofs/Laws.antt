@@ -1,21 +1,18 @@
 -- Rows match as their rules do.
 -- Assumes nothing.
-use Prim.Native.Nat.{ℕ, _+_, _*_, _/_, _%_, _≤_, _<_}
+use Prim.Native.Nat.{ℕ, suc, _+_, _*_, _/_, _%_, _≤_, _<_}
 use native.Mathlib.Omega.{arith}
 use native.Mathlib.Decide.{ℕ-discrete}
-use mathlib.Core.Path.{_≡_, refl, sym, ap, ap₂, _∙_}
+use mathlib.Core.Path.{_≡_, refl, sym, ap, _∙_}
 use mathlib.Core.Bool.{Bool, true, false, not, _&&_}
 use mathlib.Core.List.{List, [], _∷_, map}
-use lib.ListN.{length, take, getD, length-map}
-use lib.Seq.{getD-take, length-take-le}
+use lib.ListN.{take, getD}
 use lib.Dec.{leb, eqb}
 use borrow.Author.Tests.{eq-eqb, ne-eqb, eqb-true, le-leb, lt-leb}
 use Rattle.lists.specs.Lists.{lead}
-use Rattle.lists.proofs.Places.{lead-is}
+use Rattle.lists.proofs.Places.{lead-same}
 use Rattle.types.specs.declared.Rule.{Rule}
 use Rattle.rules.specs.Inner.{matches}
-use Rattle.net_cells.proofs.Laws.{lead-cells}
-use Rattle.lists.proofs.Sorted.{All}
 use Rattle.link_tables.specs.Rows.{ruleIn}
 
 -- Event and state in one number.
@@ -37,14 +34,15 @@ pub hit-is : (event state value : ℕ) (r : List ℕ) → state < 16 → hit (ev
 unfolding matches ruleIn
 hit-is event state value r h = rw (key-same (getD r 0 0) event state h)
 
-trivial : (l : List (List ℕ)) → All (λ x. Unit {0}) l
-trivial [] = tt
-trivial (x ∷ l) = (tt, trivial l)
+lead-map : {A B : Type 0} (f : A → B) (p : B → Bool) (l : List A) → lead p (map f l) ≡ lead (λ x. p (f x)) l
+lead-map f p [] = refl
+lead-map f p (x ∷ l) = ap (λ (n : ℕ). elim (p (f x)) [ true ↦ suc n | false ↦ 0 ]) (lead-map f p l)
 
 -- The place that the code finds.
-pub found-at : (event state value : ℕ) (c : List (List ℕ)) (used r : ℕ) → state < 16 → r ≡ lead (λ x. not (hit (event * 16 + state) value x)) (take used c) → r ≡ lead (λ x. not (matches event state value x)) (map ruleIn (take used c))
+pub found-at : (event state value : ℕ) (c : List (List ℕ)) (used r : ℕ) → state < 16
+    → r ≡ lead (λ x. not (hit (event * 16 + state) value x)) (take used c) → r ≡ lead (λ x. not (matches event state value x)) (map ruleIn (take used c))
 found-at event state value c used r h p =
-    p ∙ sym (lead-cells ruleIn (λ x. Unit {0}) (λ x. not (matches event state value x)) (λ x. not (hit (event * 16 + state) value x)) (λ x _. ap not (sym (hit-is event state value x h))) (take used c) (trivial (take used c)))
+    p ∙ lead-same _ _ (λ x. ap not (hit-is event state value x h)) (take used c) ∙ sym (lead-map ruleIn (λ x. not (matches event state value x)) (take used c))
 
 -- ---- the test, as the code makes it
 module _ (head low high key value : ℕ) where

@@ -3,15 +3,37 @@
 use Prim.Native.Nat.{ℕ, zero, suc, _≤_, _<_}
 use native.Mathlib.Omega.{arith}
 use mathlib.Core.Path.{_≡_, refl, sym, ap, _∙_}
-use mathlib.Core.Bool.{Bool, true, false, not}
+use mathlib.Core.Bool.{Bool, true, false, not, _&&_}
 use mathlib.Core.List.{List, [], _∷_, map}
-use lib.ListN.{length, take, getD, length-map}
+use lib.ListN.{length, take, getD}
 use lib.Seq.{getD-take, length-take-le}
-use Rattle.lists.specs.Lists.{choose, lead}
+use lib.Dec.{eqb}
+use borrow.Author.Tests.{ne-eqb}
+use Rattle.lists.specs.Lists.{choose, any, lead}
 use Rattle.types.specs.declared.Id.{Id}
 use Rattle.types.specs.declared.Rule.{Rule}
-use Rattle.rules.specs.Inner.{matches, Reply, decided, reply}
-use Rattle.link_tables.specs.Rows.{ruleIn}
+use Rattle.types.specs.declared.Storage.{Storage}
+use Rattle.types.specs.declared.Storage.the-variants.{Nothing, Value}
+use Rattle.types.specs.declared.InnerCommand.{InnerCommand}
+use Rattle.rules.specs.Inner.{matches, Reply, decided, reply, atStart, ignored, nobody}
+use Rattle.link_tables.specs.Rows.{mark, ruleIn, orders, replied, startEvent, startValue, RowLaid, TableLaid}
+use Rattle.link_tables.proofs.Told.{row-decides, orders-count}
+
+-- It ignores an event if it neither touches nor commands.
+some-none : (l : List InnerCommand) → not (any (λ _. true) l) ≡ eqb (length l) 0
+unfolding any
+some-none [] = refl
+some-none (x ∷ l) = sym (ne-eqb (suc (length l)) 0 (λ e. omega arith))
+
+pub row-ignored : (r : List ℕ) (source : Id) (value : ℕ) → RowLaid r → ignored (replied r source value) ≡ (not (mark (getD r 3 0)) && eqb (getD r 5 0) 0)
+unfolding ignored
+row-ignored r source value laid = ap (λ (b : Bool). not (mark (getD r 3 0)) && b) (some-none (orders r source value) ∙ ap (λ (n : ℕ). eqb n 0) (orders-count r source value laid))
+
+-- A start is an event in state 0.
+pub start-is : (rs : List Rule) (saved : Storage) → atStart rs saved ≡ reply rs (startEvent saved) 0 nobody (startValue saved)
+unfolding atStart startEvent startValue
+start-is rs Nothing = refl
+start-is rs (Value v) = refl
 
 module _ (event state : ℕ) (source : Id) (value : ℕ) where
   reply-at : (l : List (List ℕ)) (at : ℕ) → at ≡ lead (λ x. not (matches event state value x)) (map ruleIn l) → at < length l → reply (map ruleIn l) event state source value ≡ decided source value (ruleIn (getD l at []))
@@ -38,10 +60,19 @@ module _ (event state : ℕ) (source : Id) (value : ℕ) where
       go true p f = absurd (omega arith)
       go false p f = f (omega arith)
 
-  -- In a table of which the first `used` rows are in use, at the place that `first_match` gives.
-  module _ (t : List (List ℕ)) (used at : ℕ) (fit : used ≤ length t) (e : at ≡ lead (λ x. not (matches event state value x)) (map ruleIn (take used t))) where
-    pub row-decides : at < used → reply (map ruleIn (take used t)) event state source value ≡ decided source value (ruleIn (getD t at []))
-    row-decides h = let z = length-take-le used t fit in reply-at (take used t) at e (omega arith) ∙ ap (λ (r : List ℕ). decided source value (ruleIn r)) (getD-take used t at [] h)
+  -- In a table that is laid out, at the place that `first_match` gives.
+  module _ (t : List (List ℕ)) (used at : ℕ) (laid : TableLaid t used) (e : at ≡ lead (λ x. not (matches event state value x)) (map ruleIn (take used t))) where
+    -- A rule decides: what its row says.
+    pub row-replies : at < used → reply (map ruleIn (take used t)) event state source value ≡ replied (getD t at []) source value
+    row-replies h =
+        let z = length-take-le used t (laid .fit) in
+        reply-at (take used t) at e (omega arith) ∙ ap (λ (r : List ℕ). decided source value (ruleIn r)) (getD-take used t at [] h)
+        ∙ row-decides (getD t at []) source value (laid .rows at h)
 
-    pub none-decides : used ≤ at → reply (map ruleIn (take used t)) event state source value ≡ record { touched = false; state = state; out = [] }
-    none-decides h = let z = length-take-le used t fit in reply-none (take used t) (omega arith)
+    -- None does: ignored.
+    pub none-replies : used ≤ at → reply (map ruleIn (take used t)) event state source value ≡ record { touched = false; state = state; out = [] }
+    none-replies h = let z = length-take-le used t (laid .fit) in reply-none (take used t) (omega arith)
+
+    pub none-ignored : used ≤ at → ignored (reply (map ruleIn (take used t)) event state source value) ≡ true
+    unfolding ignored any
+    none-ignored h = ap ignored (none-replies h)

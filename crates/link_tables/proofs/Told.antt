@@ -6,10 +6,11 @@ use native.Mathlib.Numerals.{add-one}
 use mathlib.Core.Path.{_≡_, refl, sym, ap, _∙_}
 use mathlib.Core.Bool.{Bool, true, false}
 use mathlib.Core.List.{List, [], _∷_, map}
-use lib.ListN.{length, take, drop, getD}
+use lib.ListN.{length, take, drop, getD, replicate, length-map, getD-replicate}
 use lib.Seq.{getD-take, length-take-le}
 use borrow.Author.Tests.{eq-eqb, ne-eqb}
-use Rattle.lists.specs.Lists.{choose, pad}
+use Rattle.lists.specs.Lists.{choose, any, pad}
+use Rattle.types.specs.Capacities.{mostCommands}
 use Rattle.types.specs.declared.Id.{Id}
 use Rattle.types.specs.declared.Payload.{Payload}
 use Rattle.types.specs.declared.InnerCommand.{InnerCommand}
@@ -18,7 +19,8 @@ use Rattle.types.specs.declared.RuleCommand.{RuleCommand}
 use Rattle.types.specs.declared.RuleCommand.the-variants as rule
 use Rattle.types.specs.declared.Slot.{Slot}
 use Rattle.rules.specs.Inner.{told, slotsOf, commandsOf, decided}
-use Rattle.link_tables.specs.Rows.{mark, commandIn, commandsIn, ruleIn, orders, orderAt, RowLaid}
+use Rattle.link_direct.specs.Direct.{sends}
+use Rattle.link_tables.specs.Rows.{mark, commandIn, commandsIn, ruleIn, orders, replied, orderAt, RowLaid}
 
 module _ {A : Type 0} (n : ℕ) (x y : A) where
   pub picks : n % 2 ≡ 1 → x ≡ choose (mark n) x y
@@ -73,9 +75,28 @@ four : (r : List ℕ) → length (commandsIn r) ≡ 4
 unfolding commandsIn
 four r = refl
 
+sends-few : (os : List InnerCommand) → sends os ≤ length os
+unfolding sends
+sends-few [] = omega arith
+sends-few (SetTimer t ∷ os) = omega (arith, sends-few os)
+sends-few (CancelTimer t ∷ os) = omega (arith, sends-few os)
+sends-few (Save v ∷ os) = omega (arith, sends-few os)
+sends-few (Send r p ∷ os) = omega (arith, sends-few os)
+
 module _ (r : List ℕ) (source : Id) (value : ℕ) (laid : RowLaid r) where
   used-is : length (take (getD r 5 0) (commandsIn r)) ≡ getD r 5 0
   used-is = let z = four r in let w = laid .used in length-take-le (getD r 5 0) (commandsIn r) (omega arith)
+
+  -- As many as the row says, and that is few.
+  pub orders-count : length (orders r source value) ≡ getD r 5 0
+  unfolding orders
+  orders-count = length-map (take (getD r 5 0) (commandsIn r)) (told source value) ∙ used-is
+
+  pub row-four : length (orders r source value) ≤ mostCommands
+  row-four = let e = orders-count in let w = laid .used in omega arith
+
+  pub row-sends : sends (orders r source value) ≤ mostCommands
+  row-sends = let e = row-four in let w = sends-few (orders r source value) in omega arith
 
   pub orders-step : (i : ℕ) → i < getD r 5 0 → drop i (orders r source value) ≡ orderAt r source value i ∷ drop (suc i) (orders r source value)
   unfolding orders
@@ -102,7 +123,22 @@ slots-back (suc (suc (suc zero))) h a b c d = refl
 slots-back (suc (suc (suc (suc zero)))) h a b c d = refl
 slots-back (suc (suc (suc (suc (suc n))))) h a b c d = absurd (omega arith)
 
--- They are what the rule decides.
-pub decides : (r : List ℕ) (source : Id) (value : ℕ) → RowLaid r → decided source value (ruleIn r) .out ≡ orders r source value
+-- A row's rule decides what the row says.
+pub row-decides : (r : List ℕ) (source : Id) (value : ℕ) → RowLaid r → decided source value (ruleIn r) ≡ replied r source value
 unfolding decided orders ruleIn commandsOf commandsIn
-decides r source value laid = ap (map (told source value)) (slots-back (getD r 5 0) (laid .used) _ _ _ _)
+row-decides r source value laid =
+    let e = slots-back (getD r 5 0) (laid .used) _ _ _ _ in
+    λ i. record { touched = mark (getD r 3 0); state = getD r 4 0; out = map (told source value) (e i) }
+
+-- A row of zeros has no command.
+pub zero-laid : RowLaid (replicate 16 0)
+unfolding orders sends any
+zero-laid = record {
+  room = refl;
+  next = omega arith;
+  used = omega arith;
+  head = λ i h. let z = getD-replicate {A = ℕ} 16 (6 + 2 * i) 0 0 (omega arith) in omega arith;
+  word = λ i h. let z = getD-replicate {A = ℕ} 16 (7 + 2 * i) 0 0 (omega arith) in omega arith;
+  sends = λ source value. refl;
+  durable = λ source value. refl;
+}

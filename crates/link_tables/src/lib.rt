@@ -6,12 +6,13 @@ use types::Payload;
 ghost use mathlib.Core.Path.{_≡_};
 ghost use mathlib.Core.Bool.{not, _&&_};
 ghost use mathlib.Core.List.{map};
-ghost use Prim.Native.Nat.{_/_, _≤_, _<_};
-ghost use lib.ListN.{length, take};
+ghost use Prim.Native.Nat.{ℕ, _/_, _≤_, _<_};
+ghost use lib.ListN.{length, take, getD};
 ghost use lib.Dec.{leb, eqb};
 ghost use Rattle.lists.specs.Lists.{choose, lead};
-ghost use Rattle.rules.specs.Inner.{matches, told};
-ghost use Rattle.link_tables.specs.Rows.{mark, commandIn, ruleIn, RowLaid, orderAt};
+ghost use Rattle.types.specs.declared.Id.{Id};
+ghost use Rattle.rules.specs.Inner.{matches, told, ignored};
+ghost use Rattle.link_tables.specs.Rows.{mark, commandIn, ruleIn, RowLaid, orderAt, replied};
 
 // Of a row's first three words.
 fn hits(head: u64, low: u64, high: u64, key: u64, value: u64) -> bool
@@ -90,4 +91,26 @@ pub fn command_at(r: &[u64], i: usize, source: Id, value: u32) -> InnerCommand
     ensures { λ x. ⌜ x ≡ orderAt (now (r .entry)) source value i ⌝ }
 {
     command_of(r[6 + 2 * i], r[7 + 2 * i], source, value)
+}
+
+// A rule that neither touches nor commands ignores the event.
+pub fn is_ignored(r: &[u64]) -> bool
+    requires { ⌜ RowLaid (now r) ⌝ }
+    ensures { λ x. ⌜ ((source : Id) (value : ℕ) → x ≡ ignored (replied (now (r .entry)) source value)) ⌝ }
+{
+    if r[3] % 2 == 1 {
+        return false;
+    }
+    r[5] == 0
+}
+
+// The state that a rule leads to: an untouched one stays.
+pub fn state_after(r: &[u64], state: u64) -> u64
+    requires { ⌜ RowLaid (now r) × (state < 16) ⌝ }
+    ensures { λ x. ⌜ (x ≡ choose (mark (getD (now (r .entry)) 3 0)) (getD (now (r .entry)) 4 0) state) × (x < 16) ⌝ }
+{
+    if r[3] % 2 == 1 {
+        return r[4];
+    }
+    state
 }

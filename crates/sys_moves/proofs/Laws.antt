@@ -200,17 +200,3 @@ module _ (me : Id) (kind : Kind) (os : List InnerCommand) (t s used n : ℕ) (x 
         stops = λ a. absurd (not-both (isDone (r .answer)) t1 a);
         same = λ a. absurd (not-both (isDone (r .answer)) t1 a);
       }
-
--- ---- a row's commands are few
-four : (r : List ℕ) → length (commandsIn r) ≡ mostCommands
-unfolding commandsIn
-four r = refl
-
-pub row-short : (r : List ℕ) (source : Id) (value : ℕ) → RowLaid r → length (orders r source value) ≤ mostCommands
-unfolding orders
-row-short r source value laid =
-    let b = length-map (take (getD r 5 0) (commandsIn r)) (told source value) in
-    let z = four r in
-    let u = laid .used in
-    let c = length-take-le (getD r 5 0) (commandsIn r) (omega arith) in
-    omega arith

@@ -1,11 +1,11 @@
 -- A message that is acked, or acks.
 -- Assumes nothing.
-use Prim.Native.Nat.{ℕ, zero, suc, _+_, _*_, _≤_, _<_}
+use Prim.Native.Nat.{ℕ, _+_, _≤_}
 use native.Mathlib.Omega.{arith}
 use mathlib.Core.Path.{_≡_, refl, sym, ap, _∙_, subst}
 use mathlib.Core.Bool.{Bool, true, false}
 use mathlib.Core.List.{List, [], _∷_, _++_}
-use lib.ListN.{length, take, getD, set, replicate}
+use lib.ListN.{length, take, getD, set}
 use Rattle.lists.specs.Lists.{choose}
 use Rattle.types.specs.Capacities.{mostTold}
 use Rattle.types.specs.declared.Id.{Id}
@@ -26,7 +26,7 @@ use Rattle.net_rows.specs.declared.Sent.{Sent}
 use Rattle.net_rows.specs.Views.{netOf, roomOf, NetReady, Changed}
 use Rattle.net_rows.proofs.Ready.{deliver-ready}
 use Rattle.link_direct.specs.Direct.{asked, sends}
-use Rattle.link_tables.specs.Rows.{RowLaid, orders}
+use Rattle.link_tables.specs.Rows.{orders}
 use Rattle.link_rows.specs.Rows.{durableIn}
 use Rattle.sys_seat.specs.Seat.{Around, holding}
 use Rattle.sys_seat.proofs.Seats.{run-save}
@@ -99,23 +99,9 @@ module _ (kind : Kind) (e : Envelope) (v : Number) (x : Rows) (used n : ℕ) (fi
     }
 
 -- ---- a row with no command
-zeros-at : (n i : ℕ) → getD (replicate n 0) i 0 ≡ 0
-zeros-at zero i = refl
-zeros-at (suc n) zero = refl
-zeros-at (suc n) (suc i) = zeros-at n i
-
-pub zero-sends : (r : List ℕ) (source : Id) (value : ℕ) → getD r 5 0 ≡ 0 → sends (orders r source value) ≡ 0
+zero-sends : (r : List ℕ) (source : Id) (value : ℕ) → getD r 5 0 ≡ 0 → sends (orders r source value) ≡ 0
 unfolding sends orders
 zero-sends r source value e = rw e
-
-pub zero-laid : (r : List ℕ) → r ≡ replicate 16 0 → RowLaid r
-zero-laid r e = rw e (record {
-  room = refl;
-  next = omega arith;
-  used = omega arith;
-  head = λ i h. let z = zeros-at 16 (6 + 2 * i) in omega arith;
-  word = λ i h. let z = zeros-at 16 (7 + 2 * i) in omega arith;
-})
 
 pub zero-number : (r : List ℕ) (source : Id) (value : ℕ) → getD r 5 0 ≡ 0 → 0 + sends (orders r source value) ≤ 18446744073709551615
 zero-number r source value e = let z = zero-sends r source value e in omega arith

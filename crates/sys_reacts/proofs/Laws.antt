@@ -38,7 +38,6 @@ use Rattle.net_rows.proofs.Ready.{send-ready}
 use Rattle.net_rows.proofs.Laws.{used-is}
 use Rattle.link_direct.specs.Direct.{asked, sends}
 use Rattle.link_direct.proofs.Laws.{Goes, goes, no-numbers, no-places}
-use Rattle.link_tables.specs.Rows.{RowLaid, orders, commandsIn}
 use Rattle.answers.specs.Answers.{isDone}
 use Rattle.sys_emits.specs.declared.Emitted.{Emitted}
 use Rattle.sys_emits.specs.Views.{sysIn, Ran}
@@ -176,29 +175,6 @@ sent-front : (source : Id) (f : First) → sent (frontOf source f) ≤ 1
 unfolding sent frontOf
 sent-front source first.Nothing = omega arith
 sent-front source (first.Acked v) = omega arith
-
-sends-few : (os : List InnerCommand) → sends os ≤ length os
-unfolding sends
-sends-few [] = omega arith
-sends-few (inner.SetTimer t ∷ os) = let z = sends-few os in omega arith
-sends-few (inner.CancelTimer t ∷ os) = let z = sends-few os in omega arith
-sends-few (inner.Save v ∷ os) = let z = sends-few os in omega arith
-sends-few (inner.Send r p ∷ os) = let z = sends-few os in omega arith
-
-four : (r : List ℕ) → length (commandsIn r) ≡ 4
-unfolding commandsIn
-four r = refl
-
-pub row-sends : (r : List ℕ) (source : Id) (value : ℕ) → RowLaid r → sends (orders r source value) ≤ 4
-unfolding orders
-row-sends r source value laid =
-    let l = map (told source value) (take (getD r 5 0) (commandsIn r)) in
-    let a = sends-few l in
-    let b = length-map (take (getD r 5 0) (commandsIn r)) (told source value) in
-    let z = four r in
-    let u = laid .used in
-    let c = length-take-le (getD r 5 0) (commandsIn r) (omega arith) in
-    omega arith
 
 -- ---- put back after an 8
 module _ (kind : Kind) (me : Id) (cmds : List Command) (cs : List (List ℕ)) (used n w : ℕ) (ready : NetReady kind cs used n) (r : Emitted) (cs' : List (List ℕ)) (ran : Ran kind me cmds cs used w r cs') where
