@@ -5,9 +5,10 @@ use lib.ListN.{getD, take}
 use borrow.Author.Tests.{not-true, not-false}
 use Rattle.link_direct.specs.Direct.{asked}
 use Rattle.link_tables.specs.Rows.{orders}
+use Rattle.link_tables.proofs.Told.{row-sends}
 use Rattle.sys_reacts.specs.declared.First.the-variants.{Acked}
 use Rattle.sys_reacts.specs.Views.{frontOf}
-use Rattle.sys_reacts.proofs.Laws.{row-sends, few-sent}
+use Rattle.sys_reacts.proofs.Laws.{few-sent}
 use Rattle.sys_reacts.proofs.Deliver.{back-done, back-again, back-roomy}
 use borrow.Author.Needs.{needs}
 use Rattle.sys_reacts.proofs.deliver_row.Statement.{statement}
@@ -17,7 +18,7 @@ shared-slice-read-n : tie.Need-shared-slice-read-n
 shared-slice-read-n c = let s = (c .before .before) in let z = s .pre .1 .room in search needs
 
 add-roomy : tie.Need-add-roomy
-add-roomy c = let s = (c .before .before) in let a = s .args in let os = orders (a .row .now) (a .e .src) (a .value) in let cmds = take (a .limit) (frontOf (a .e .src) (Acked (a .number)) ++ asked (a .next) os) in let z = row-sends (a .row .now) (a .e .src) (a .value) (s .pre .1) in let y = s .pre .4 in search needs
+add-roomy c = let s = (c .before .before) in let a = s .args in let os = orders (a .row .now) (a .e .src) (a .value) in let cmds = take (a .limit) (frontOf (a .e .src) (Acked (a .number)) ++ asked (a .next) os) in let z = row-sends (a .row .now) (a .e .src) (a .value) (s .pre .1) in let y = s .pre .1 .sends (a .e .src) (a .value) in search needs
 
 roomy-requires : tie.Need-roomy-requires
 roomy-requires c κs = let s = (c .before .before) in let z = s .pre .0 .laid .fit in let y = s .pre .3 in search needs

@@ -4,8 +4,9 @@ use mathlib.Core.List.{_++_}
 use lib.ListN.{getD, take}
 use Rattle.link_direct.specs.Direct.{asked}
 use Rattle.link_tables.specs.Rows.{orders}
+use Rattle.link_tables.proofs.Told.{row-sends}
 use Rattle.sys_reacts.specs.Views.{frontOf}
-use Rattle.sys_reacts.proofs.Laws.{row-sends, few-sent, safe-done, safe-back, safe-roomy}
+use Rattle.sys_reacts.proofs.Laws.{few-sent, safe-done, safe-back, safe-roomy}
 use borrow.Author.Needs.{needs}
 use Rattle.sys_reacts.proofs.react_row.Statement.{statement}
 use Rattle.sys_reacts.proofs.react_row.Tie as tie
@@ -14,7 +15,7 @@ shared-slice-read-n : tie.Need-shared-slice-read-n
 shared-slice-read-n c = let s = (c .before .before) in let z = s .pre .1 .room in search needs
 
 add-roomy : tie.Need-add-roomy
-add-roomy c = let s = (c .before .before) in let a = s .args in let os = orders (a .row .now) (a .source) (a .value) in let z = row-sends (a .row .now) (a .source) (a .value) (s .pre .1) in let y = s .pre .4 in search needs
+add-roomy c = let s = (c .before .before) in let a = s .args in let os = orders (a .row .now) (a .source) (a .value) in let z = row-sends (a .row .now) (a .source) (a .value) (s .pre .1) in let y = s .pre .1 .sends (a .source) (a .value) in search needs
 
 roomy-requires : tie.Need-roomy-requires
 roomy-requires c κs = let s = (c .before .before) in let z = s .pre .0 .laid .fit in let y = s .pre .3 in search needs
