@@ -1,17 +1,17 @@
 -- Inner commands noted one by one.
 -- Assumes nothing.
-use Prim.Native.Nat.{ℕ, zero, suc, _+_, _-_, _≤_, _<_}
+use Prim.Native.Nat.{ℕ, zero, suc, _+_, _≤_}
 use native.Mathlib.Omega.{arith}
 use mathlib.Core.Path.{_≡_, refl, sym, ap, _∙_}
 use mathlib.Core.List.{List, [], _∷_, _++_}
-use lib.ListN.{length, drop, getD}
+use lib.ListN.{drop, getD}
 use Rattle.types.specs.declared.Id.{Id}
 use Rattle.types.specs.declared.Payload.{Payload}
 use Rattle.types.specs.declared.InnerCommand.{InnerCommand}
 use Rattle.types.specs.declared.InnerCommand.the-variants as inner
 use Rattle.rules.specs.Link.{Durable, posting, withInner}
 use Rattle.link_direct.specs.Direct.{noted, sends}
-use Rattle.link_rows.specs.Rows.{durableIn}
+use Rattle.link_rows.specs.Rows.{durableIn, HeadLaid, Turned}
 use Rattle.link_notes.specs.Views.{Noted}
 
 pub sends-cons : (x : InnerCommand) (os : List InnerCommand) → sends (x ∷ os) ≡ sends (x ∷ []) + sends os
@@ -31,19 +31,32 @@ noted-cons (inner.Send r p) os d = refl
 module _ (x : InnerCommand) (w : List ℕ) (p : List (List ℕ)) where
   pub note-set : (t : ℕ) → x ≡ inner.SetTimer t → Noted (x ∷ []) w p w p
   unfolding noted sends
-  note-set t e = rw e (record { durable = refl; places = omega arith; numbers = omega arith; after = refl })
+  note-set t e = rw e (record { durable = refl; places = omega arith; numbers = omega arith; after = refl; head = λ fit. fit })
 
   pub note-cancel : (t : ℕ) → x ≡ inner.CancelTimer t → Noted (x ∷ []) w p w p
   unfolding noted sends
-  note-cancel t e = rw e (record { durable = refl; places = omega arith; numbers = omega arith; after = refl })
+  note-cancel t e = rw e (record { durable = refl; places = omega arith; numbers = omega arith; after = refl; head = λ fit. fit })
 
-  pub note-save : (v : ℕ) → x ≡ inner.Save v → (w' : List ℕ) → durableIn w' p ≡ withInner v (durableIn w p) → getD w' 1 0 ≡ getD w 1 0 → drop 4 w' ≡ drop 4 w → Noted (x ∷ []) w p w' p
+  pub note-save : (v : ℕ) → x ≡ inner.Save v → (w' : List ℕ) → Turned (withInner v) w p w' p → getD w' 1 0 ≡ getD w 1 0 → Noted (x ∷ []) w p w' p
   unfolding noted sends withInner durableIn
-  note-save v e w' q h t = rw e (record { durable = q; places = omega arith; numbers = let z = ap (λ (d : Durable). d .next .0) q in omega arith; after = t })
+  note-save v e w' q h = rw e (record {
+    durable = q .durable;
+    places = omega arith;
+    numbers = let z = ap (λ (d : Durable). d .next .0) (q .durable) in omega arith;
+    after = q .after;
+    head = q .head;
+  })
 
-  pub note-send : (r : Id) (y : Payload) → x ≡ inner.Send r y → (w' : List ℕ) (p' : List (List ℕ)) → durableIn w' p' ≡ posting r y (durableIn w p) → getD w' 1 0 ≡ getD w 1 0 + 1 → drop 4 w' ≡ drop 4 w → Noted (x ∷ []) w p w' p'
+  pub note-send : (r : Id) (y : Payload) → x ≡ inner.Send r y → (w' : List ℕ) (p' : List (List ℕ)) → Turned (posting r y) w p w' p'
+      → getD w' 1 0 ≡ getD w 1 0 + 1 → Noted (x ∷ []) w p w' p'
   unfolding noted sends posting durableIn
-  note-send r y e w' p' q h t = rw e (record { durable = q; places = omega arith; numbers = let z = ap (λ (d : Durable). d .next .0) q in omega arith; after = t })
+  note-send r y e w' p' q h = rw e (record {
+    durable = q .durable;
+    places = omega arith;
+    numbers = let z = ap (λ (d : Durable). d .next .0) (q .durable) in omega arith;
+    after = q .after;
+    head = q .head;
+  })
 
   pub note-sends : (r : Id) (y : Payload) → x ≡ inner.Send r y → sends (x ∷ []) ≡ 1
   unfolding sends
@@ -56,22 +69,37 @@ module _ (os : List InnerCommand) (w₀ : List ℕ) (p₀ : List (List ℕ)) whe
     pub places : getD w 1 0 + sends rest ≡ getD w₀ 1 0 + sends os
     pub numbers : getD w 0 0 + sends rest ≡ getD w₀ 0 0 + sends os
     pub after : drop 4 w ≡ drop 4 w₀
+    pub head : HeadLaid w₀ p₀ → HeadLaid w p
 
-  pub along-step : (w : List ℕ) (p : List (List ℕ)) (rest : List InnerCommand) → Along w p rest → (x : InnerCommand) (more : List InnerCommand) → rest ≡ x ∷ more → (w' : List ℕ) (p' : List (List ℕ)) → Noted (x ∷ []) w p w' p' → Along w' p' more
-  along-step w p rest on x more e w' p' n =
-      let s = ap sends e in
-      let t = sends-cons x more in
-      let a = on .places in
-      let b = on .numbers in
-      let f = n .places in
-      let g = n .numbers in
-      record {
-        durable = ap (noted more) (n .durable) ∙ sym (noted-cons x more (durableIn w p)) ∙ ap (λ (r : List InnerCommand). noted r (durableIn w p)) (sym e) ∙ on .durable;
-        places = omega arith;
-        numbers = omega arith;
-        after = n .after ∙ on .after;
-      }
+  module _ (w : List ℕ) (p : List (List ℕ)) (rest : List InnerCommand) (on : Along w p rest) where
+    pub along-step : (x : InnerCommand) (more : List InnerCommand) → rest ≡ x ∷ more → (w' : List ℕ) (p' : List (List ℕ)) → Noted (x ∷ []) w p w' p'
+        → Along w' p' more
+    along-step x more e w' p' n =
+        let s = ap sends e in
+        let t = sends-cons x more in
+        let a = on .places in
+        let b = on .numbers in
+        let f = n .places in
+        let g = n .numbers in
+        record {
+          durable = ap (noted more) (n .durable) ∙ sym (noted-cons x more (durableIn w p))
+              ∙ ap (λ (r : List InnerCommand). noted r (durableIn w p)) (sym e) ∙ on .durable;
+          places = omega arith;
+          numbers = omega arith;
+          after = n .after ∙ on .after;
+          head = λ fit. n .head (on .head fit);
+        }
 
-  pub along-end : (w : List ℕ) (p : List (List ℕ)) (rest : List InnerCommand) → Along w p rest → rest ≡ [] → Noted os w₀ p₀ w p
-  unfolding noted sends
-  along-end w p rest on e = record { durable = ap (λ (r : List InnerCommand). noted r (durableIn w p)) (sym e) ∙ on .durable; places = let s = ap sends e in let a = on .places in omega arith; numbers = let s = ap sends e in let a = on .numbers in omega arith; after = on .after }
+    pub along-end : rest ≡ [] → Noted os w₀ p₀ w p
+    unfolding noted sends
+    along-end e =
+        let s = ap sends e in
+        let a = on .places in
+        let b = on .numbers in
+        record {
+          durable = ap (λ (r : List InnerCommand). noted r (durableIn w p)) (sym e) ∙ on .durable;
+          places = omega arith;
+          numbers = omega arith;
+          after = on .after;
+          head = on .head;
+        }

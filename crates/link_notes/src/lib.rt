@@ -17,7 +17,8 @@ ghost use Rattle.link_notes.specs.Views.{Noted};
 
 // One inner command.
 fn note_one(live: &mut [u64], pend: &mut [[u64; RECORD]], x: InnerCommand)
-    requires { ⌜ (length (now live) ≡ rowSize) × (getD (now live) 1 0 + sends (x ∷ []) ≤ length (now pend)) × (getD (now live) 0 0 + sends (x ∷ []) ≤ 18446744073709551615) ⌝ }
+    requires { ⌜ (length (now live) ≡ rowSize) × (getD (now live) 1 0 + sends (x ∷ []) ≤ length (now pend))
+        × (getD (now live) 0 0 + sends (x ∷ []) ≤ 18446744073709551615) ⌝ }
     ensures { λ _. ⌜ Noted (x ∷ []) (now (live .entry)) (now (pend .entry)) (now (live .exit)) (now (pend .exit)) ⌝ }
 {
     match x {
@@ -30,8 +31,11 @@ fn note_one(live: &mut [u64], pend: &mut [[u64; RECORD]], x: InnerCommand)
 
 // The commands of a rule's row.
 pub fn note(live: &mut [u64], pend: &mut [[u64; RECORD]], row: &[u64], source: Id, value: u32)
-    requires { ⌜ RowLaid (now row) × (length (now live) ≡ rowSize) × (getD (now live) 1 0 + sends (orders (now row) source value) ≤ length (now pend)) × (getD (now live) 0 0 + sends (orders (now row) source value) ≤ 18446744073709551615) ⌝ }
-    ensures { λ _. ⌜ Noted (orders (now (row .entry)) source value) (now (live .entry)) (now (pend .entry)) (now (live .exit)) (now (pend .exit)) ⌝ }
+    requires { ⌜ RowLaid (now row) × (length (now live) ≡ rowSize)
+        × (getD (now live) 1 0 + sends (orders (now row) source value) ≤ length (now pend))
+        × (getD (now live) 0 0 + sends (orders (now row) source value) ≤ 18446744073709551615) ⌝ }
+    ensures { λ _. ⌜ Noted (orders (now (row .entry)) source value)
+        (now (live .entry)) (now (pend .entry)) (now (live .exit)) (now (pend .exit)) ⌝ }
 {
     let n = row[5] as usize;
     let mut i = 0;

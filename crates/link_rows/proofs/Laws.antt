@@ -15,7 +15,8 @@ use Rattle.types.specs.declared.Number.{Number}
 use Rattle.types.specs.declared.Pending.{Pending}
 use Rattle.types.specs.declared.Storage.{Storage}
 use Rattle.rules.specs.Link.{Durable, numbered, posting, withInner, without, acked}
-use Rattle.link_rows.specs.Rows.{rowSize, pendingIn, numberIn, storageIn, durableIn, other}
+use Rattle.link_rows.specs.Rows.{rowSize, pendingIn, numberIn, storageIn, durableIn, other, HeadLaid, Turned}
+use Rattle.link_rows.proofs.Heads.{head-same, head-more, head-less}
 
 map-snoc : {A B : Type 0} (f : A → B) (l : List A) (a : A) → map f (l ++ a ∷ []) ≡ map f l ++ f a ∷ []
 map-snoc f [] a = refl
@@ -38,7 +39,7 @@ module _ (w : List ℕ) (i j a b : ℕ) (room : length w ≡ rowSize) (hi : i < 
   after : drop 8 w' ≡ drop 8 w
   after = drop-set-lt 8 (set w i a) j b hj ∙ drop-set-lt 8 w i a hi
 
-pub posted : (w : List ℕ) (p : List (List ℕ)) (dst payload : ℕ) → length w ≡ rowSize → getD w 1 0 < length p
+posted : (w : List ℕ) (p : List (List ℕ)) (dst payload : ℕ) → length w ≡ rowSize → getD w 1 0 < length p
     → durableIn (set (set w 0 (getD w 0 0 + 1)) 1 (getD w 1 0 + 1)) (set p (getD w 1 0) (getD w 0 0 ∷ dst ∷ payload ∷ 0 ∷ [])) ≡ posting (record { 0 = dst }) (record { 0 = payload }) (durableIn w p)
 unfolding durableIn posting numbered pendingIn
 posted w p dst payload room h =
@@ -58,11 +59,8 @@ posted w p dst payload room h =
     let e5 = after w 0 1 (v + 1) (n + 1) room i j no in
     λ k. record { next = record { 0 = e0 k }; pending = ps k; taken = map numberIn (take (e4 k) (e5 k)); inner = storageIn (e2 k) (e3 k) }
 
-pub low-set : (w : List ℕ) (i j a b : ℕ) → i < 4 → j < 4 → drop 4 (set (set w i a) j b) ≡ drop 4 w
+low-set : (w : List ℕ) (i j a b : ℕ) → i < 4 → j < 4 → drop 4 (set (set w i a) j b) ≡ drop 4 w
 low-set w i j a b h k = drop-set-lt 4 (set w i a) j b k ∙ drop-set-lt 4 w i a h
-
-pub low-one : (w : List ℕ) (i a : ℕ) → i < 4 → drop 4 (set w i a) ≡ drop 4 w
-low-one w i a h = drop-set-lt 4 w i a h
 
 pub count-set : (w : List ℕ) (a : ℕ) → length w ≡ rowSize → getD (set w 1 a) 1 0 ≡ a
 count-set w a room = getD-set-same w 1 a 0 (omega arith)
@@ -73,7 +71,19 @@ posted-count w a b room = set-second w 0 1 a b room (omega arith) (omega arith) 
 pub valued-count : (w : List ℕ) (a b : ℕ) → length w ≡ rowSize → getD (set (set w 2 a) 3 b) 1 0 ≡ getD w 1 0
 valued-count w a b room = beside w 2 3 a b room (omega arith) (omega arith) (λ e. omega arith) 1 (λ e. omega arith) (λ e. omega arith)
 
-pub valued : (w : List ℕ) (p : List (List ℕ)) (v : ℕ) → length w ≡ rowSize → durableIn (set (set w 2 1) 3 v) p ≡ withInner v (durableIn w p)
+module _ (w : List ℕ) (p : List (List ℕ)) (dst payload : ℕ) (room : length w ≡ rowSize) (h : getD w 1 0 < length p) (hd : dst < 256) (hp : payload < 4294967296) where
+  pub turned-post : Turned (posting (record { 0 = dst }) (record { 0 = payload })) w p
+      (set (set w 0 (getD w 0 0 + 1)) 1 (getD w 1 0 + 1)) (set p (getD w 1 0) (getD w 0 0 ∷ dst ∷ payload ∷ 0 ∷ []))
+  turned-post =
+      let v = set (set w 0 (getD w 0 0 + 1)) 1 (getD w 1 0 + 1) in
+      let same : (k : ℕ) → (k ≡ 0 → ⊥) → (k ≡ 1 → ⊥) → getD v k 0 ≡ getD w k 0 = beside w 0 1 _ _ room (omega arith) (omega arith) (λ e. omega arith) in
+      record {
+        durable = posted w p dst payload room h;
+        after = low-set w 0 1 _ _ (omega arith) (omega arith);
+        head = λ fit. head-more w v p _ h fit hd hp (posted-count w _ _ room) (same 2 (λ e. omega arith) (λ e. omega arith)) (same 3 (λ e. omega arith) (λ e. omega arith));
+      }
+
+valued : (w : List ℕ) (p : List (List ℕ)) (v : ℕ) → length w ≡ rowSize → durableIn (set (set w 2 1) 3 v) p ≡ withInner v (durableIn w p)
 unfolding durableIn withInner storageIn
 valued w p v room =
     let no : _≡_ {A = ℕ} 2 3 → ⊥ = λ e. omega arith in
@@ -86,6 +96,18 @@ valued w p v room =
     let e4 = beside w 2 3 1 v room i j no 4 (λ e. omega arith) (λ e. omega arith) in
     let e5 = after w 2 3 1 v room i j no in
     λ k. record { next = record { 0 = e0 k }; pending = map pendingIn (take (e1 k) p); taken = map numberIn (take (e4 k) (e5 k)); inner = storageIn (e2 k) (e3 k) }
+
+pub turned-value : (w : List ℕ) (p : List (List ℕ)) (v : ℕ) → length w ≡ rowSize → v < 4294967296 → Turned (withInner v) w p (set (set w 2 1) 3 v) p
+turned-value w p v room hv =
+    let no : _≡_ {A = ℕ} 2 3 → ⊥ = λ e. omega arith in
+    let u = set (set w 2 1) 3 v in
+    let e2 : getD u 2 0 ≡ 1 = set-first w 2 3 1 v room (omega arith) (omega arith) no in
+    let e3 : getD u 3 0 ≡ v = set-second w 2 3 1 v room (omega arith) (omega arith) no in
+    record {
+      durable = valued w p v room;
+      after = low-set w 2 3 1 v (omega arith) (omega arith);
+      head = λ fit. record { sendable = rw (valued-count w 1 v room) (fit .sendable); saves = omega arith; value = omega arith };
+    }
 
 -- ---- an ack
 map-del : {A B : Type 0} (f : A → B) (at : ℕ) (l : List A) → del at (map f l) ≡ map f (del at l)
@@ -119,7 +141,7 @@ module _ (n : ℕ) (l : List (List ℕ)) where
       sym (cut-missing (λ q. eqb n (q .number .0)) (λ q. []) (map pendingIn l) (omega arith))
 
 module _ (w : List ℕ) (p : List (List ℕ)) (n : ℕ) (room : length w ≡ rowSize) (fit : getD w 1 0 ≤ length p) (at : ℕ) (e : at ≡ lead (other n) (take (getD w 1 0) p)) where
-  pub acked-one : at < getD w 1 0 → (p' : List (List ℕ)) → take (getD w 1 0 - 1) p' ≡ del at (take (getD w 1 0) p) → durableIn (set w 1 (getD w 1 0 - 1)) p' ≡ acked (record { 0 = n }) (durableIn w p)
+  acked-one : at < getD w 1 0 → (p' : List (List ℕ)) → take (getD w 1 0 - 1) p' ≡ del at (take (getD w 1 0) p) → durableIn (set w 1 (getD w 1 0 - 1)) p' ≡ acked (record { 0 = n }) (durableIn w p)
   unfolding durableIn acked
   acked-one h p' q =
       let v = length-take-le (getD w 1 0) p fit in
@@ -132,9 +154,20 @@ module _ (w : List ℕ) (p : List (List ℕ)) (n : ℕ) (room : length w ≡ row
       let e5 = drop-set-lt 8 w 1 (getD w 1 0 - 1) (omega arith) in
       λ k. record { next = record { 0 = e0 k }; pending = ps k; taken = map numberIn (take (e4 k) (e5 k)); inner = storageIn (e2 k) (e3 k) }
 
-  pub acked-none : getD w 1 0 ≤ at → durableIn w p ≡ acked (record { 0 = n }) (durableIn w p)
+  acked-none : getD w 1 0 ≤ at → durableIn w p ≡ acked (record { 0 = n }) (durableIn w p)
   unfolding durableIn acked
   acked-none h =
       let v = length-take-le (getD w 1 0) p fit in
       let ps = without-none n (take (getD w 1 0) p) at e (omega arith) in
       λ k. record { next = record { 0 = getD w 0 0 }; pending = ps k; taken = map numberIn (take (getD w 4 0) (drop 8 w)); inner = storageIn (getD w 2 0) (getD w 3 0) }
+
+  pub turned-ack : at < getD w 1 0 → (p' : List (List ℕ)) → take (getD w 1 0 - 1) p' ≡ del at (take (getD w 1 0) p)
+      → Turned (acked (record { 0 = n })) w p (set w 1 (getD w 1 0 - 1)) p'
+  turned-ack h p' q = record {
+    durable = acked-one h p' q;
+    after = drop-set-lt 4 w 1 _ (omega arith);
+    head = head-less p p' (getD w 1 0) at (omega arith) q w room refl;
+  }
+
+  pub turned-absent : getD w 1 0 ≤ at → Turned (acked (record { 0 = n })) w p w p
+  turned-absent h = record { durable = acked-none h; after = refl; head = λ fit. fit }

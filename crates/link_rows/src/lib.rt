@@ -4,10 +4,10 @@
 ghost use mathlib.Core.Path.{_≡_};
 ghost use mathlib.Core.List.{List};
 ghost use Prim.Native.Nat.{ℕ, _+_, _-_, _≤_, _<_};
-ghost use lib.ListN.{length, take, drop, getD};
+ghost use lib.ListN.{length, take, getD};
 ghost use Rattle.lists.specs.Lists.{lead, del};
 ghost use Rattle.rules.specs.Link.{posting, withInner, acked};
-ghost use Rattle.link_rows.specs.Rows.{rowSize, durableIn, other};
+ghost use Rattle.link_rows.specs.Rows.{rowSize, other, Turned};
 
 // The words of a row and of a pending record: the definitions have them as rowSize and recordSize (specs/Rows).
 pub const ROW: usize = 32;
@@ -16,8 +16,11 @@ pub const RECORD: usize = 4;
 
 // A message to `dst` takes the next number and becomes pending.
 pub fn post(live: &mut [u64], pend: &mut [[u64; RECORD]], dst: u64, payload: u64)
-    requires { ⌜ (length (now live) ≡ rowSize) × (getD (now live) 1 0 < length (now pend)) × (getD (now live) 0 0 < 18446744073709551615) ⌝ }
-    ensures { λ _. ⌜ (durableIn (now (live .exit)) (now (pend .exit)) ≡ posting (record { 0 = dst }) (record { 0 = payload }) (durableIn (now (live .entry)) (now (pend .entry)))) × (getD (now (live .exit)) 1 0 ≡ getD (now (live .entry)) 1 0 + 1) × (drop 4 (now (live .exit)) ≡ drop 4 (now (live .entry))) ⌝ }
+    requires { ⌜ (length (now live) ≡ rowSize) × (getD (now live) 1 0 < length (now pend)) × (getD (now live) 0 0 < 18446744073709551615)
+        × (dst < 256) × (payload < 4294967296) ⌝ }
+    ensures { λ _. ⌜ Turned (posting (record { 0 = dst }) (record { 0 = payload }))
+        (now (live .entry)) (now (pend .entry)) (now (live .exit)) (now (pend .exit))
+        × (getD (now (live .exit)) 1 0 ≡ getD (now (live .entry)) 1 0 + 1) ⌝ }
 {
     let next = live[0];
     let n = live[1];
@@ -28,8 +31,9 @@ pub fn post(live: &mut [u64], pend: &mut [[u64; RECORD]], dst: u64, payload: u64
 
 // The inner actor saves a value.
 pub fn save_value(live: &mut [u64], value: u64)
-    requires { ⌜ length (now live) ≡ rowSize ⌝ }
-    ensures { λ _. ⌜ ((p : List (List ℕ)) → durableIn (now (live .exit)) p ≡ withInner value (durableIn (now (live .entry)) p)) × (getD (now (live .exit)) 1 0 ≡ getD (now (live .entry)) 1 0) × (drop 4 (now (live .exit)) ≡ drop 4 (now (live .entry))) ⌝ }
+    requires { ⌜ (length (now live) ≡ rowSize) × (value < 4294967296) ⌝ }
+    ensures { λ _. ⌜ ((p : List (List ℕ)) → Turned (withInner value) (now (live .entry)) p (now (live .exit)) p)
+        × (getD (now (live .exit)) 1 0 ≡ getD (now (live .entry)) 1 0) ⌝ }
 {
     live[2] = 1;
     live[3] = value;
@@ -65,7 +69,8 @@ fn remove_at(pend: &mut [[u64; RECORD]], used: usize, at: usize)
 // A number is acked: its record goes; absent is fine.
 pub fn drop_acked(live: &mut [u64], pend: &mut [[u64; RECORD]], number: u64)
     requires { ⌜ (length (now live) ≡ rowSize) × (getD (now live) 1 0 ≤ length (now pend)) ⌝ }
-    ensures { λ _. ⌜ (durableIn (now (live .exit)) (now (pend .exit)) ≡ acked (record { 0 = number }) (durableIn (now (live .entry)) (now (pend .entry)))) × (getD (now (live .exit)) 1 0 ≤ getD (now (live .entry)) 1 0) × (drop 4 (now (live .exit)) ≡ drop 4 (now (live .entry))) ⌝ }
+    ensures { λ _. ⌜ Turned (acked (record { 0 = number })) (now (live .entry)) (now (pend .entry)) (now (live .exit)) (now (pend .exit))
+        × (getD (now (live .exit)) 1 0 ≤ getD (now (live .entry)) 1 0) ⌝ }
 {
     let n = live[1];
     let at = pending_place(pend, n as usize, number);

@@ -19,9 +19,8 @@ ghost use Rattle.types.specs.declared.Message.the-variants.{Deliver};
 ghost use Rattle.rules.specs.Network.{send};
 ghost use Rattle.rules.specs.Link.{resent};
 ghost use Rattle.net_rows.specs.Views.{netOf, roomOf, NetReady, Changed};
-ghost use Rattle.link_rows.specs.Rows.{pendingIn};
+ghost use Rattle.link_rows.specs.Rows.{pendingIn, Sendable};
 ghost use Rattle.sys_emits.specs.Views.{Ran};
-ghost use Rattle.sys_resends.specs.Views.{Sendable};
 
 fn resend_one(
     c: &mut [[u64; 4]],

@@ -12,7 +12,8 @@ use Rattle.types.specs.Capacities.{mostActors}
 use Rattle.types.specs.declared.Number.{Number}
 use Rattle.rules.specs.Link.{Durable, untaken, noteTaken, withTaken}
 use Rattle.link_rows.specs.Rows.{rowSize, pendingIn, numberIn, storageIn, durableIn}
-use Rattle.sys_rows.specs.Rows.{TailLaid, Noticed}
+use Rattle.link_rows.proofs.Heads.{head-same}
+use Rattle.sys_rows.specs.Rows.{TailLaid, RowsLaid, Noticed}
 use Rattle.sys_rows.proofs.Laws.{tail-at}
 
 -- Past the counted ones all are 0.
@@ -35,10 +36,11 @@ beyond (x ∷ l) (suc k) zero v h g z = absurd (omega arith)
 beyond (x ∷ l) (suc k) (suc s) v h g z = ap (λ (r : List Number). record { 0 = x } ∷ r) (beyond l k s v (omega arith) (omega arith) (λ i a b. z (suc i) (omega arith) (omega arith)))
 
 -- Another row with the same first words, the same marks, and these numbers last taken.
-noticed : (s v : ℕ) (w u : List ℕ) → ((i : ℕ) → i < 4 → getD u i 0 ≡ getD w i 0) → getD u 5 0 ≡ getD w 5 0
-    → map numberIn (take (getD u 4 0) (drop 8 u)) ≡ write untaken s (record { 0 = v }) (map numberIn (take (getD w 4 0) (drop 8 w))) → TailLaid (drop 4 u) → Noticed s v w u
+noticed : (s v : ℕ) (w u : List ℕ) → length u ≡ length w → ((i : ℕ) → i < 4 → getD u i 0 ≡ getD w i 0) → getD u 5 0 ≡ getD w 5 0
+    → map numberIn (take (getD u 4 0) (drop 8 u)) ≡ write untaken s (record { 0 = v }) (map numberIn (take (getD w 4 0) (drop 8 w)))
+    → TailLaid (drop 4 u) → Noticed s v w u
 unfolding durableIn withTaken noteTaken
-noticed s v w u low five e t =
+noticed s v w u room low five e t =
     let e0 = low 0 (omega arith) in
     let e1 = low 1 (omega arith) in
     let e2 = low 2 (omega arith) in
@@ -49,6 +51,13 @@ noticed s v w u low five e t =
       numbers = e0;
       crashed = five;
       tail = t;
+      laid = λ p laid. record {
+        room = room ∙ laid .room;
+        places = laid .places;
+        pending = let z = laid .pending in omega arith;
+        head = head-same w u p e1 e2 e3 (laid .head);
+        tail = t;
+      };
     }
 
 eight : (i : ℕ) → 8 + i ≡ 4 + (4 + i)
@@ -74,8 +83,10 @@ module _ (w : List ℕ) (s v : ℕ) (room : length w ≡ rowSize) (hs : s < most
   noticed-within h =
       let l = long in
       let c = count-of in
-      noticed s v w u (λ i g. other i (λ z. omega arith)) (other 5 (λ z. omega arith))
-      (ap (λ (k : ℕ). map numberIn (take k (drop 8 u))) (other 4 (λ z. omega arith)) ∙ ap (λ (r : List ℕ). map numberIn (take (getD w 4 0) r)) (drop-set-add 8 w s v) ∙ within (drop 8 w) (getD w 4 0) s v h (omega arith))
+      noticed s v w u (length-set w (8 + s) v) (λ i g. other i (λ z. omega arith)) (other 5 (λ z. omega arith))
+      (ap (λ (k : ℕ). map numberIn (take k (drop 8 u))) (other 4 (λ z. omega arith))
+      ∙ ap (λ (r : List ℕ). map numberIn (take (getD w 4 0) r)) (drop-set-add 8 w s v)
+      ∙ within (drop 8 w) (getD w 4 0) s v h (omega arith))
       (record {
         sources = let z = tail-at u 0 ∙ other 4 (λ z. omega arith) ∙ sym (tail-at w 0) in let y = laid .sources in omega arith;
         timers = let z = tail-at u 2 ∙ other 6 (λ z. omega arith) ∙ sym (tail-at w 2) in let y = laid .timers in omega arith;
@@ -98,9 +109,13 @@ module _ (w : List ℕ) (s v : ℕ) (room : length w ≡ rowSize) (hs : s < most
   noticed-beyond h =
       let l = long in
       let c = count-of in
-      noticed s v w t (λ i g. apart i (λ z. omega arith) (λ z. omega arith)) (apart 5 (λ z. omega arith) (λ z. omega arith))
-      (ap (λ (k : ℕ). map numberIn (take k (drop 8 t))) (counted ∙ add-one s) ∙ ap (λ (r : List ℕ). map numberIn (take (suc s) r)) (drop-set-lt 8 u 4 (s + 1) (omega arith) ∙ drop-set-add 8 w s v)
-      ∙ beyond (drop 8 w) (getD w 4 0) s v h (omega arith) (λ i a b. getD-drop 8 w i 0 ∙ ap (λ (k : ℕ). getD w k 0) (eight i) ∙ sym (tail-at w (4 + i)) ∙ laid .rest i (omega arith) (omega arith)))
+      let free : (i : ℕ) → getD w 4 0 ≤ i → i < s → getD (drop 8 w) i 0 ≡ 0 = λ i a b.
+          getD-drop 8 w i 0 ∙ ap (λ (k : ℕ). getD w k 0) (eight i) ∙ sym (tail-at w (4 + i)) ∙ laid .rest i (omega arith) (omega arith) in
+      noticed s v w t (length-set u 4 (s + 1) ∙ length-set w (8 + s) v) (λ i g. apart i (λ z. omega arith) (λ z. omega arith))
+      (apart 5 (λ z. omega arith) (λ z. omega arith))
+      (ap (λ (k : ℕ). map numberIn (take k (drop 8 t))) (counted ∙ add-one s)
+      ∙ ap (λ (r : List ℕ). map numberIn (take (suc s) r)) (drop-set-lt 8 u 4 (s + 1) (omega arith) ∙ drop-set-add 8 w s v)
+      ∙ beyond (drop 8 w) (getD w 4 0) s v h (omega arith) free)
       (record {
         sources = let z = tail-at t 0 ∙ counted in omega arith;
         timers = let z = tail-at t 2 ∙ apart 6 (λ z. omega arith) (λ z. omega arith) ∙ sym (tail-at w 2) in let y = laid .timers in omega arith;

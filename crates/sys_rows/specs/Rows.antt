@@ -12,7 +12,7 @@ use Rattle.rules.specs.Link.{Durable, withTaken}
 use Rattle.rules.specs.System.{Actor}
 use Rattle.link_timers.specs.Views.{listed}
 use Rattle.link_tables.specs.Rows.{mark}
-use Rattle.link_rows.specs.Rows.{rowSize, durableIn}
+use Rattle.link_rows.specs.Rows.{rowSize, durableIn, HeadLaid}
 use Rattle.link_direct.specs.Direct.{noted}
 
 unfoldable pub storedIn : ℕ → Durable → Option Durable
@@ -40,6 +40,7 @@ pub record RowsLaid (w : List ℕ) (p : List (List ℕ)) : Type 0 where
   pub room : length w ≡ rowSize
   pub places : length p ≡ mostPending
   pub pending : getD w 1 0 ≤ mostPending
+  pub head : HeadLaid w p
   pub tail : TailLaid (drop 4 w)
 
 -- What a handler leaves of the live rows: a durable part, timers and a state.
@@ -50,10 +51,11 @@ pub record Settled (d : Durable) (t s : ℕ) (w : List ℕ) (w' : List ℕ) (p' 
   pub state : getD w' 7 0 ≡ s
   pub laid : RowsLaid w' p'
 
--- A number last taken is noted: the durable part is the rules' one, and the marks and the pending count stay.
+-- A number last taken is noted: the durable part is the rules' one, and the marks and the pending count stay. Rows that were laid out are so still.
 pub record Noticed (source number : ℕ) (w w' : List ℕ) : Type 0 where
   pub durable : (p : List (List ℕ)) → durableIn w' p ≡ withTaken (record { 0 = source }) (record { 0 = number }) (durableIn w p)
   pub pending : getD w' 1 0 ≡ getD w 1 0
   pub numbers : getD w' 0 0 ≡ getD w 0 0
   pub crashed : getD w' 5 0 ≡ getD w 5 0
   pub tail : TailLaid (drop 4 w')
+  pub laid : (p : List (List ℕ)) → RowsLaid w p → RowsLaid w' p

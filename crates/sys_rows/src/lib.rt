@@ -49,8 +49,11 @@ pub fn settle(
     timers: u32,
     state: u64,
 )
-    requires { ⌜ RowLaid (now row) × RowsLaid (now live) (now pend) × (state ≤ lastState) × (getD (now live) 1 0 + sends (orders (now row) source value) ≤ mostPending) × (getD (now live) 0 0 + sends (orders (now row) source value) ≤ 18446744073709551615) ⌝ }
-    ensures { λ _. ⌜ Settled (noted (orders (now (row .entry)) source value) (durableIn (now (live .entry)) (now (pend .entry)))) timers state (now (live .entry)) (now (live .exit)) (now (pend .exit)) ⌝ }
+    requires { ⌜ RowLaid (now row) × RowsLaid (now live) (now pend) × (state ≤ lastState)
+        × (getD (now live) 1 0 + sends (orders (now row) source value) ≤ mostPending)
+        × (getD (now live) 0 0 + sends (orders (now row) source value) ≤ 18446744073709551615) ⌝ }
+    ensures { λ _. ⌜ Settled (noted (orders (now (row .entry)) source value) (durableIn (now (live .entry)) (now (pend .entry)))) timers state
+        (now (live .entry)) (now (live .exit)) (now (pend .exit)) ⌝ }
 {
     note(live, pend, row, source, value);
     put_marks(live, timers, state);
@@ -59,7 +62,9 @@ pub fn settle(
 // A number is acked.
 pub fn settle_ack(live: &mut [u64; ROW], pend: &mut [[u64; RECORD]; MOST_PENDING], number: u64)
     requires { ⌜ RowsLaid (now live) (now pend) ⌝ }
-    ensures { λ _. ⌜ Settled (acked (record { 0 = number }) (durableIn (now (live .entry)) (now (pend .entry)))) (getD (now (live .entry)) 6 0) (getD (now (live .entry)) 7 0) (now (live .entry)) (now (live .exit)) (now (pend .exit)) ⌝ }
+    ensures { λ _. ⌜ Settled (acked (record { 0 = number }) (durableIn (now (live .entry)) (now (pend .entry))))
+        (getD (now (live .entry)) 6 0) (getD (now (live .entry)) 7 0)
+        (now (live .entry)) (now (live .exit)) (now (pend .exit)) ⌝ }
 {
     drop_acked(live, pend, number);
 }

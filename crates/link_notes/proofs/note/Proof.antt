@@ -23,7 +23,7 @@ shared-slice-read-n : tie.Need-shared-slice-read-n Inv-loop μ-loop
 shared-slice-read-n c = let z = c .before .before .before .pre .0 .room in search needs
 
 loop-holds : tie.Need-loop-holds Inv-loop μ-loop
-loop-holds c = let s = c .before .before .before in (omega arith, s .pre .1, refl, record { durable = refl; places = refl; numbers = refl; after = refl })
+loop-holds c = let s = c .before .before .before in (omega arith, s .pre .1, refl, record { durable = refl; places = refl; numbers = refl; after = refl; head = λ fit. fit })
 
 command-at-requires : tie.Need-command-at-requires Inv-loop μ-loop
 command-at-requires c κs = let s = c .before .before .before .before .before in let z = s .pre .0 .used in (s .pre .0, omega arith)

@@ -1,8 +1,7 @@
 use native.Mathlib.Omega.{arith}
 use Prim.Native.Nat.{_-_}
 use lib.ListN.{getD}
-use mathlib.Core.Path.{refl}
-use Rattle.link_rows.proofs.Laws.{acked-none, acked-one, count-set, low-one}
+use Rattle.link_rows.proofs.Laws.{turned-absent, turned-ack, count-set}
 use borrow.Author.Needs.{needs}
 use Rattle.link_rows.proofs.drop_acked.Statement.{statement}
 use Rattle.link_rows.proofs.drop_acked.Tie as tie
@@ -17,7 +16,11 @@ same-length : tie.Need-same-length
 same-length c = search needs
 
 returns : tie.Need-returns
-returns c = let s = c .before .before .before .before .before in let w = c .before .pending-place in (acked-none (s .args .live .now) (s .args .pend .now) (s .args .number) (s .pre .0) (s .pre .1) (w .result) (w .ensures) (c .if1 .taken), omega arith, refl)
+returns c =
+    let s = c .before .before .before .before .before in
+    let a = s .args in
+    let at = c .before .pending-place in
+    (turned-absent (a .live .now) (a .pend .now) (a .number) (s .pre .0) (s .pre .1) (at .result) (at .ensures) (c .if1 .taken), omega arith)
 
 remove-at-requires : tie.Need-remove-at-requires
 remove-at-requires c κs = search needs
@@ -35,7 +38,13 @@ same-length-3 : tie.Need-same-length-3
 same-length-3 c = search needs
 
 returns-2 : tie.Need-returns-2
-returns-2 c = let s = c .before .before .before .before .before .before .before .before in let w = c .before .before .before .before .pending-place in (acked-one (s .args .live .now) (s .args .pend .now) (s .args .number) (s .pre .0) (s .pre .1) (w .result) (w .ensures) (c .before .before .before .if1 .left) (c .before .remove-at .last .0) (c .before .remove-at .ensures), omega (arith, count-set (s .args .live .now) (getD (s .args .live .now) 1 0 - 1) (s .pre .0)), low-one (s .args .live .now) 1 _ (omega arith))
+returns-2 c =
+    let s = c .before .before .before .before .before .before .before .before in
+    let w = s .args .live .now in
+    let at = c .before .before .before .before .pending-place in
+    let gone = c .before .remove-at in
+    (turned-ack w (s .args .pend .now) (s .args .number) (s .pre .0) (s .pre .1) (at .result) (at .ensures) (c .before .before .before .if1 .left)
+    (gone .last .0) (gone .ensures), omega (arith, count-set w (getD w 1 0 - 1) (s .pre .0)))
 
 pub drop-acked-spec : {M : Type 1} → statement M
 drop-acked-spec =

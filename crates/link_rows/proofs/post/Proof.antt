@@ -1,5 +1,4 @@
-use Rattle.link_rows.proofs.Laws.{posted, posted-count, low-set}
-use native.Mathlib.Omega.{arith}
+use Rattle.link_rows.proofs.Laws.{turned-post, posted-count}
 use borrow.Author.Needs.{needs}
 use Rattle.link_rows.proofs.post.Statement.{statement}
 use Rattle.link_rows.proofs.post.Tie as tie
@@ -35,7 +34,10 @@ same-length-2 : tie.Need-same-length-2
 same-length-2 c = search needs
 
 returns : tie.Need-returns
-returns c = let s = c .before .before in (posted (s .args .live .now) (s .args .pend .now) (s .args .dst) (s .args .payload) (s .pre .0) (s .pre .1), posted-count (s .args .live .now) _ _ (s .pre .0), low-set (s .args .live .now) 0 1 _ _ (omega arith) (omega arith))
+returns c =
+    let s = c .before .before in
+    let w = s .args .live .now in
+    (turned-post w (s .args .pend .now) (s .args .dst) (s .args .payload) (s .pre .0) (s .pre .1) (s .pre .3) (s .pre .4), posted-count w _ _ (s .pre .0))
 
 pub post-spec : {M : Type 1} → statement M
 post-spec =

@@ -11,7 +11,13 @@ drop-acked-requires : tie.Need-drop-acked-requires
 drop-acked-requires c κs = search needs
 
 returns : tie.Need-returns
-returns c = let s = (c .before .before .before) in let a = s .args in let w1 = (c .drop-acked) .last .0 in let p1 = (c .drop-acked) .last .1 .0 in let e = (c .drop-acked) .ensures in let r1 : length w1 ≡ rowSize = search (needs, s .pre .room) in let r2 : length p1 ≡ mostPending = search (needs, s .pre .places) in settled-low _ (a .live .now) (a .pend .now) w1 p1 (s .pre) (e .0) (e .1) (e .2) r1 r2
+returns c =
+    let s = c .before .before .before in
+    let a = s .args in
+    let e = c .drop-acked in
+    let r1 : length (e .last .0) ≡ rowSize = search (needs, s .pre .room) in
+    let r2 : length (e .last .1 .0) ≡ mostPending = search (needs, s .pre .places) in
+    settled-low _ (a .live .now) (a .pend .now) (e .last .0) (e .last .1 .0) (s .pre) (e .ensures .0) (e .ensures .1) r1 r2
 
 pub settle-ack-spec : {M : Type 1} → statement M
 settle-ack-spec = tie.close (tie.spec drop-acked-requires returns)
