@@ -8,7 +8,7 @@ use mathlib.Core.Option.{some}
 use mathlib.Core.List.{List, [], _∷_, _++_, append-assoc}
 use lib.ListN.{length, take, getD, set}
 use Rattle.lists.specs.Lists.{choose, any, lead}
-use Rattle.lists.proofs.Places.{any-yes, any-no}
+use Rattle.net_entries.proofs.Tests.{any-yes, any-no}
 use Rattle.types.specs.Capacities.{mostPending, mostCommands, mostTold}
 use Rattle.types.specs.declared.Id.{Id}
 use Rattle.types.specs.declared.Number.{Number}
@@ -32,7 +32,7 @@ use Rattle.net_rows.specs.Views.{entryList, netOf, roomOf, NetReady}
 use Rattle.net_rows.proofs.Laws.{used-is}
 use Rattle.link_direct.specs.Direct.{asked, noted, sends}
 use Rattle.link_tables.specs.Rows.{mark}
-use Rattle.link_rows.specs.Rows.{rowSize, durableIn}
+use Rattle.link_rows.specs.Rows.{durableIn}
 use Rattle.sys_seat.specs.Seat.{Around, holding}
 use Rattle.sys_seat.proofs.Seats.{run-append, run-save}
 use Rattle.sys_emits.specs.declared.Emitted.{Emitted}
@@ -47,9 +47,9 @@ use Rattle.sys_rows.proofs.Laws.{tail-at, as-stored, stored-laid}
 use Rattle.sys_moves.specs.Views.{Rows, actorWith, running, takenIn, Fine, Acted}
 use Rattle.sys_moves.proofs.Laws.{places-are, outputs, refused-output, asked-few, take-all}
 
-module _ (source : Id) (number : Number) (os : List InnerCommand) (w : List ℕ) (p : List (List ℕ)) (laid : RowsLaid w p) (w1 : List ℕ) (note : Noticed (source .0) (number .0) w w1) (r1 : length w1 ≡ rowSize) where
+module _ (source : Id) (number : Number) (os : List InnerCommand) (w : List ℕ) (p : List (List ℕ)) (laid : RowsLaid w p) (w1 : List ℕ) (note : Noticed (source .0) (number .0) w w1) where
   pub noticed-laid : RowsLaid w1 p
-  noticed-laid = record { room = r1; places = laid .places; pending = let z = note .pending in let y = laid .pending in omega arith; tail = note .tail }
+  noticed-laid = note .laid p laid
 
   pub noticed-places : getD w 1 0 + sends os ≤ mostPending → getD w1 1 0 + sends os ≤ mostPending
   noticed-places h = let z = note .pending in omega arith

@@ -1,6 +1,3 @@
-use mathlib.Core.Path.{_≡_}
-use lib.ListN.{length}
-use Rattle.link_rows.specs.Rows.{rowSize}
 use Rattle.link_tables.specs.Rows.{orders}
 use Rattle.sys_moves.proofs.Taken.{noticed-laid, noticed-places, noticed-numbers, noticed-settled}
 use borrow.Author.Needs.{needs}
@@ -14,13 +11,13 @@ take-number-requires : tie.Need-take-number-requires
 take-number-requires c κs = let s = (c .before .before .before) in (s .pre .1 .room, s .pre .3, s .pre .1 .tail)
 
 settle-requires : tie.Need-settle-requires
-settle-requires c κs = let s = (c .before .before .before .before .before .before) in let a = s .args in let os = orders (a .row .now) (a .source) (a .value) in let w1 = (c .before .before .take-number) .last .0 in let r1 : length w1 ≡ rowSize = search (needs, s .pre .1 .room) in (s .pre .0, noticed-laid (a .source) (a .number) os (a .live .now) (a .pend .now) (s .pre .1) w1 ((c .before .before .take-number) .ensures) r1, s .pre .2, noticed-places (a .source) (a .number) os (a .live .now) (a .pend .now) (s .pre .1) w1 ((c .before .before .take-number) .ensures) r1 (s .pre .4), noticed-numbers (a .source) (a .number) os (a .live .now) (a .pend .now) (s .pre .1) w1 ((c .before .before .take-number) .ensures) r1 (s .pre .5))
+settle-requires c κs = let s = (c .before .before .before .before .before .before) in let a = s .args in let os = orders (a .row .now) (a .source) (a .value) in let w1 = (c .before .before .take-number) .last .0 in (s .pre .0, noticed-laid (a .source) (a .number) os (a .live .now) (a .pend .now) (s .pre .1) w1 ((c .before .before .take-number) .ensures), s .pre .2, noticed-places (a .source) (a .number) os (a .live .now) (a .pend .now) (s .pre .1) w1 ((c .before .before .take-number) .ensures) (s .pre .4), noticed-numbers (a .source) (a .number) os (a .live .now) (a .pend .now) (s .pre .1) w1 ((c .before .before .take-number) .ensures) (s .pre .5))
 
 store-requires : tie.Need-store-requires
 store-requires c κs = (c .before .before .before .before .settle) .ensures .laid .room
 
 returns : tie.Need-returns
-returns c = let s = (c .before .before .before .before .before .before .before .before .before .before .before .before) in let a = s .args in let os = orders (a .row .now) (a .source) (a .value) in let w1 = (c .before .before .before .before .before .before .before .before .take-number) .last .0 in let r1 : length w1 ≡ rowSize = search (needs, s .pre .1 .room) in (noticed-settled (a .source) (a .number) os (a .live .now) (a .pend .now) (s .pre .1) w1 ((c .before .before .before .before .before .before .before .before .take-number) .ensures) r1 (a .timers) (a .state) ((c .before .before .before .before .before .settle) .last .0) ((c .before .before .before .before .before .settle) .last .1 .0) ((c .before .before .before .before .before .settle) .ensures), (c .store) .ensures .0, (c .store) .ensures .1)
+returns c = let s = (c .before .before .before .before .before .before .before .before .before .before .before .before) in let a = s .args in let os = orders (a .row .now) (a .source) (a .value) in let w1 = (c .before .before .before .before .before .before .before .before .take-number) .last .0 in (noticed-settled (a .source) (a .number) os (a .live .now) (a .pend .now) (s .pre .1) w1 ((c .before .before .before .before .before .before .before .before .take-number) .ensures) (a .timers) (a .state) ((c .before .before .before .before .before .settle) .last .0) ((c .before .before .before .before .before .settle) .last .1 .0) ((c .before .before .before .before .before .settle) .ensures), (c .store) .ensures .0, (c .store) .ensures .1)
 
 pub take-in-spec : {M : Type 1} → statement M
 take-in-spec =
