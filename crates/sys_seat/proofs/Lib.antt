@@ -1,2 +1,3 @@
 pub mod Seats
 pub mod Rooms
+pub mod Actions
