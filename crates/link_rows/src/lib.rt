@@ -80,3 +80,15 @@ pub fn drop_acked(live: &mut [u64], pend: &mut [[u64; RECORD]], number: u64)
     remove_at(pend, n as usize, at);
     live[1] = n - 1;
 }
+
+// The first n records of one are put in the place of those of the other.
+pub fn copy_records(from: &[[u64; RECORD]], to: &mut [[u64; RECORD]], n: usize)
+    requires { ⌜ (n ≤ length (now from)) × (n ≤ length (now to)) ⌝ }
+    ensures { λ _. ⌜ take n (now (to .exit)) ≡ take n (now (from .entry)) ⌝ }
+{
+    let mut i = 0;
+    while i < n {
+        to[i] = from[i];
+        i += 1;
+    }
+}

@@ -15,10 +15,10 @@ use Rattle.rules.specs.System.{Actor}
 use Rattle.link_timers.specs.Views.{listed}
 use Rattle.link_tables.specs.Rows.{mark}
 use Rattle.link_rows.specs.Rows.{rowSize, pendingIn, numberIn, storageIn, durableIn, HeadLaid, Turned}
-use Rattle.link_rows.proofs.Heads.{head-same}
+use Rattle.link_rows.proofs.Heads.{head-same, sendable-same}
 use Rattle.link_direct.specs.Direct.{noted, sends}
 use Rattle.link_notes.specs.Views.{Noted}
-use Rattle.sys_rows.specs.Rows.{storedIn, actorOf, TailLaid, RowsLaid, Settled}
+use Rattle.sys_rows.specs.Rows.{storedIn, actorOf, TailLaid, RowsLaid, Settled, Kept}
 
 module _ (w : List ℕ) (i v : ℕ) (h : 4 < i) (k : i < 8) where
   pub aside : (p : List (List ℕ)) → durableIn (set w i v) p ≡ durableIn w p
@@ -123,6 +123,19 @@ settled-low change w p w' p' laid to few r1 r2 = record {
   };
 }
 
+-- What is stored is the durable part.
+pub stored-durable : (w : List ℕ) (p : List (List ℕ)) (k : List ℕ) (q : List (List ℕ)) → Kept w p k q → durableIn k q ≡ durableIn w p
+unfolding durableIn
+stored-durable w p k q kept =
+    let e = kept .records in
+    ap (λ (l : List ℕ). durableIn l q) (kept .row) ∙ aside w 5 1 (omega arith) (omega arith) q
+    ∙ (λ j. record {
+      next = record { 0 = getD w 0 0 };
+      pending = map pendingIn (e j);
+      taken = map numberIn (take (getD w 4 0) (drop 8 w));
+      inner = storageIn (getD w 2 0) (getD w 3 0);
+    })
+
 -- ---- as an actor
 module _ (rs : List Rule) (d : Durable) (t s : ℕ) (w w' : List ℕ) (p' : List (List ℕ)) (set-to : Settled d t s w w' p') where
   -- The actor that these are, with this storage.
@@ -146,26 +159,27 @@ module _ (rs : List Rule) (d : Durable) (t s : ℕ) (w w' : List ℕ) (p' : List
       }
 
   -- stored
-  pub as-stored : (k : List ℕ) (q : List (List ℕ)) → k ≡ set w' 5 1 → q ≡ p' → actorOf rs w' p' k q ≡ actorWith (some d)
+  pub as-stored : (k : List ℕ) (q : List (List ℕ)) → Kept w' p' k q → actorOf rs w' p' k q ≡ actorWith (some d)
   unfolding storedIn
-  as-stored k q e f =
+  as-stored k q kept =
       let r = set-to .laid .room in
-      let g : getD k 5 0 ≡ 1 = ap (λ (l : List ℕ). getD l 5 0) e ∙ getD-set-same w' 5 1 0 (omega arith) in
-      let h : durableIn k q ≡ d = ap (λ (l : List ℕ). durableIn l q) e ∙ ap (durableIn (set w' 5 1)) f ∙ aside w' 5 1 (omega arith) (omega arith) p' ∙ set-to .durable in
-      as-settled k q ∙ ap actorWith (ap (λ (n : ℕ). storedIn n (durableIn k q)) g ∙ ap some h)
+      let g : getD k 5 0 ≡ 1 = ap (λ (l : List ℕ). getD l 5 0) (kept .row) ∙ getD-set-same w' 5 1 0 (omega arith) in
+      as-settled k q ∙ ap actorWith (ap (λ (n : ℕ). storedIn n (durableIn k q)) g ∙ ap some (stored-durable w' p' k q kept ∙ set-to .durable))
 
 -- What is stored is laid out as the live rows are.
-pub stored-laid : (w k : List ℕ) (p q : List (List ℕ)) → RowsLaid w p → k ≡ set w 5 1 → q ≡ p → RowsLaid k q
-stored-laid w k p q laid e f =
+pub stored-laid : (w : List ℕ) (p : List (List ℕ)) (k : List ℕ) (q : List (List ℕ)) → Kept w p k q → RowsLaid w p → RowsLaid k q
+stored-laid w p k q kept laid =
     let same : (i : ℕ) → (i ≡ 5 → ⊥) → getD (set w 5 1) i 0 ≡ getD w i 0 = λ i n. getD-set-other w 5 i 1 0 n in
     let e6 = same 6 (λ z. omega arith) ∙ sym (tail-at w 2) in
     let e7 = same 7 (λ z. omega arith) ∙ sym (tail-at w 3) in
     let y6 = laid .tail .timers in
     let y7 = laid .tail .state in
-    rw (e, f) (record {
+    let fit = laid .head in
+    rw (kept .row) (record {
       room = length-set w 5 1 ∙ laid .room;
-      places = laid .places;
+      places = kept .places;
       pending = let z = same 1 (λ z. omega arith) in let y = laid .pending in omega arith;
-      head = aside-head w 5 1 (omega arith) (omega arith) p (laid .head);
+      head = aside-head w 5 1 (omega arith) (omega arith) q
+          (record { sendable = sendable-same p q (getD w 1 0) (kept .records) (fit .sendable); saves = fit .saves; value = fit .value });
       tail = tail-marks w (set w 5 1) (laid .tail) (same 4 (λ z. omega arith)) (omega arith) (omega arith) (λ i. same (8 + i) (λ z. omega arith));
     })

@@ -4,7 +4,7 @@ use Prim.Native.Nat.{ℕ, zero, suc, _+_, _≤_, _<_}
 use mathlib.Core.Path.{_≡_}
 use mathlib.Core.Option.{Option, none, some}
 use mathlib.Core.List.{List}
-use lib.ListN.{length, drop, getD}
+use lib.ListN.{length, take, drop, getD, set}
 use Rattle.types.specs.Capacities.{mostPending, mostActors, lastState}
 use Rattle.types.specs.declared.Rule.{Rule}
 use Rattle.types.specs.declared.InnerCommand.{InnerCommand}
@@ -50,6 +50,12 @@ pub record Settled (d : Durable) (t s : ℕ) (w : List ℕ) (w' : List ℕ) (p' 
   pub timers : getD w' 6 0 ≡ t
   pub state : getD w' 7 0 ≡ s
   pub laid : RowsLaid w' p'
+
+-- The live rows are stored: the row with its mark, and the pending records that are counted.
+pub record Kept (w : List ℕ) (p : List (List ℕ)) (k : List ℕ) (q : List (List ℕ)) : Type 0 where
+  pub row : k ≡ set w 5 1
+  pub records : take (getD w 1 0) q ≡ take (getD w 1 0) p
+  pub places : length q ≡ mostPending
 
 -- A number last taken is noted: the durable part is the rules' one, and the marks and the pending count stay. Rows that were laid out are so still.
 pub record Noticed (source number : ℕ) (w w' : List ℕ) : Type 0 where

@@ -2,6 +2,7 @@
 use link_notes::note;
 use link_rows::RECORD;
 use link_rows::ROW;
+use link_rows::copy_records;
 use link_rows::drop_acked;
 use types::Id;
 use types::MOST_PENDING;
@@ -13,21 +14,21 @@ ghost use Rattle.rules.specs.Link.{acked};
 ghost use Rattle.link_rows.specs.Rows.{rowSize, durableIn};
 ghost use Rattle.link_direct.specs.Direct.{noted, sends};
 ghost use Rattle.link_tables.specs.Rows.{RowLaid, orders};
-ghost use Rattle.sys_rows.specs.Rows.{TailLaid, RowsLaid, Settled, Noticed};
+ghost use Rattle.sys_rows.specs.Rows.{TailLaid, RowsLaid, Settled, Kept, Noticed};
 
-// All of it is stored.
+// All of it is stored: the row, and of the pending records those that are counted.
 pub fn store(
     live: &[u64; ROW],
     pend: &[[u64; RECORD]; MOST_PENDING],
     kept: &mut [u64; ROW],
     stored: &mut [[u64; RECORD]; MOST_PENDING],
 )
-    requires { ⌜ length (now live) ≡ rowSize ⌝ }
-    ensures { λ _. ⌜ (now (kept .exit) ≡ set (now (live .entry)) 5 1) × (now (stored .exit) ≡ now (pend .entry)) ⌝ }
+    requires { ⌜ RowsLaid (now live) (now pend) × (length (now stored) ≡ mostPending) ⌝ }
+    ensures { λ _. ⌜ Kept (now (live .entry)) (now (pend .entry)) (now (kept .exit)) (now (stored .exit)) ⌝ }
 {
     *kept = *live;
     kept[5] = 1;
-    *stored = *pend;
+    copy_records(pend, stored, live[1] as usize);
 }
 
 // Timers and state are put in place.
