@@ -62,9 +62,12 @@ module _ (lim : Limits) (i : Id) where
       go (no m) = rw (le-ltb (d .next .0) (lim .numbers) (omega arith), six (omega arith))
   stops (inner.Send r p ∷ os) d (suc a) n l h k six seven =
       let w = one-more d r p in
-      rw (lt-ltb (d .next .0) (lim .numbers) (omega arith), lt-ltb (length (d .pending)) (lim .pending) (omega arith),
-      stops os (posting r p d) a n (omega arith) (omega arith) (omega arith) (λ e. six (omega arith))
-      (λ e. let s = seven (omega arith) in (omega arith, s .1)))
+      rw (
+        lt-ltb (d .next .0) (lim .numbers) (omega arith),
+        lt-ltb (length (d .pending)) (lim .pending) (omega arith),
+        stops os (posting r p d) a n (omega arith) (omega arith) (omega arith) (λ e. six (omega arith))
+            (λ e. let s = seven (omega arith) in (omega arith, s .1)),
+      )
 
   -- The first to run out decides, numbers before places.
   pub no-numbers : (os : List InnerCommand) (d : Durable) → lim .numbers < d .next .0 + sends os → d .next .0 ≤ lim .numbers

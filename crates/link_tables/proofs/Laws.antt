@@ -1,4 +1,4 @@
--- Rows match as their rules do.
+-- Rows match as their rules do: event and state are one number, and it is equal where both are.
 -- Assumes nothing.
 use Prim.Native.Nat.{ℕ, suc, _+_, _*_, _/_, _%_, _≤_, _<_}
 use native.Mathlib.Omega.{arith}
@@ -11,9 +11,8 @@ use lib.Dec.{leb, eqb}
 use borrow.Author.Tests.{eq-eqb, ne-eqb, eqb-true, le-leb, lt-leb}
 use Rattle.lists.specs.Lists.{lead}
 use Rattle.lists.proofs.Places.{lead-same}
-use Rattle.types.specs.declared.Rule.{Rule}
 use Rattle.rules.specs.Inner.{matches}
-use Rattle.link_tables.specs.Rows.{ruleIn}
+use Rattle.link_tables.specs.Rows.{ruleIn, rulesIn, firstOf}
 
 -- Event and state in one number.
 key-same : (h e s : ℕ) → s < 16 → eqb h (e * 16 + s) ≡ (eqb e (h / 16) && eqb s (h % 16))
@@ -24,7 +23,10 @@ key-same h e s l = go (ℕ-discrete h (e * 16 + s))
     other n false q = refl
 
     go : Dec (h ≡ e * 16 + s) → eqb h (e * 16 + s) ≡ (eqb e (h / 16) && eqb s (h % 16))
-    go (yes p) = let a : e ≡ h / 16 = omega arith in let b : s ≡ h % 16 = omega arith in eq-eqb h (e * 16 + s) p ∙ rw (eq-eqb e (h / 16) a, eq-eqb s (h % 16) b)
+    go (yes p) =
+        let a : e ≡ h / 16 = omega arith in
+        let b : s ≡ h % 16 = omega arith in
+        eq-eqb h (e * 16 + s) p ∙ rw (eq-eqb e (h / 16) a, eq-eqb s (h % 16) b)
     go (no n) = ne-eqb h (e * 16 + s) n ∙ other n (eqb e (h / 16)) refl
 
 abbrev pub hit : ℕ → ℕ → List ℕ → Bool
@@ -39,10 +41,11 @@ lead-map f p [] = refl
 lead-map f p (x ∷ l) = ap (λ (n : ℕ). elim (p (f x)) [ true ↦ suc n | false ↦ 0 ]) (lead-map f p l)
 
 -- The place that the code finds.
-pub found-at : (event state value : ℕ) (c : List (List ℕ)) (used r : ℕ) → state < 16
-    → r ≡ lead (λ x. not (hit (event * 16 + state) value x)) (take used c) → r ≡ lead (λ x. not (matches event state value x)) (map ruleIn (take used c))
-found-at event state value c used r h p =
-    p ∙ lead-same _ _ (λ x. ap not (hit-is event state value x h)) (take used c) ∙ sym (lead-map ruleIn (λ x. not (matches event state value x)) (take used c))
+pub found-at : (event state value : ℕ) (t : List (List ℕ)) (used r : ℕ) → state < 16
+    → r ≡ lead (λ x. not (hit (event * 16 + state) value x)) (take used t) → r ≡ firstOf event state value (rulesIn t used)
+found-at event state value t used r h p =
+    p ∙ lead-same _ _ (λ x. ap not (hit-is event state value x h)) (take used t)
+    ∙ sym (lead-map ruleIn (λ x. not (matches event state value x)) (take used t))
 
 -- ---- the test, as the code makes it
 module _ (head low high key value : ℕ) where

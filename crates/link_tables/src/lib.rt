@@ -4,15 +4,15 @@ use types::Id;
 use types::InnerCommand;
 use types::Payload;
 ghost use mathlib.Core.Path.{_≡_};
-ghost use mathlib.Core.Bool.{not, _&&_};
-ghost use mathlib.Core.List.{map};
+ghost use mathlib.Core.Bool.{_&&_};
 ghost use Prim.Native.Nat.{ℕ, _/_, _≤_, _<_};
-ghost use lib.ListN.{length, take, getD};
+ghost use lib.ListN.{length, getD};
 ghost use lib.Dec.{leb, eqb};
-ghost use Rattle.lists.specs.Lists.{choose, lead};
+ghost use Rattle.lists.specs.Lists.{choose};
+ghost use Rattle.types.specs.Capacities.{mostCommands};
 ghost use Rattle.types.specs.declared.Id.{Id};
-ghost use Rattle.rules.specs.Inner.{matches, told, ignored};
-ghost use Rattle.link_tables.specs.Rows.{mark, commandIn, ruleIn, RowLaid, orderAt, replied};
+ghost use Rattle.rules.specs.Inner.{told, ignored};
+ghost use Rattle.link_tables.specs.Rows.{mark, commandIn, orderAt, replied, RowLaid, rulesIn, firstOf};
 
 // Of a row's first three words.
 fn hits(head: u64, low: u64, high: u64, key: u64, value: u64) -> bool
@@ -30,7 +30,7 @@ fn hits(head: u64, low: u64, high: u64, key: u64, value: u64) -> bool
 // The place of the first of the used rules that matches, or their count.
 pub fn first_match(t: &[[u64; 16]], used: usize, event: u64, state: u64, value: u64) -> usize
     requires { ⌜ (used ≤ length (now t)) × (event < 4) × (state < 16) ⌝ }
-    ensures { λ r. ⌜ r ≡ lead (λ x. not (matches event state value x)) (map ruleIn (take used (now (t .entry)))) ⌝ }
+    ensures { λ r. ⌜ r ≡ firstOf event state value (rulesIn (now (t .entry)) used) ⌝ }
 {
     let key = event * 16 + state;
     let mut i = 0;
@@ -87,7 +87,7 @@ fn command_of(w: u64, v: u64, source: Id, value: u32) -> InnerCommand
 
 // The command at a place of a rule's row.
 pub fn command_at(r: &[u64], i: usize, source: Id, value: u32) -> InnerCommand
-    requires { ⌜ RowLaid (now r) × (i < 4) ⌝ }
+    requires { ⌜ RowLaid (now r) × (i < mostCommands) ⌝ }
     ensures { λ x. ⌜ x ≡ orderAt (now (r .entry)) source value i ⌝ }
 {
     command_of(r[6 + 2 * i], r[7 + 2 * i], source, value)

@@ -1,3 +1,4 @@
+-- The two words of the place are a command that is laid out.
 use borrow.Author.Needs.{needs}
 use Rattle.link_tables.proofs.command_at.Statement.{statement}
 use Rattle.link_tables.proofs.command_at.Tie as tie

@@ -1,3 +1,4 @@
+-- By the kind, one of four; the fourth is what is left.
 use native.Mathlib.Omega.{arith}
 use Rattle.link_tables.proofs.Told.{is-set, is-cancel, is-save, is-send}
 use borrow.Author.Needs.{needs}
@@ -26,7 +27,9 @@ destination-of-requires : tie.Need-destination-of-requires
 destination-of-requires c κs = search needs
 
 returns-4 : tie.Need-returns-4
-returns-4 c = let s = c .before .before .before .before .before .args in is-send (s .w) (s .v) (s .source) (s .value) (omega arith) _ (c .before .before .word-of .ensures) _ (c .destination-of .ensures)
+returns-4 c =
+    let s = c .before .before .before .before .before .args in
+    is-send (s .w) (s .v) (s .source) (s .value) (omega arith) _ (c .before .before .word-of .ensures) _ (c .destination-of .ensures)
 
 pub command-of-spec : {M : Type 1} → statement M
 command-of-spec =

@@ -1,3 +1,4 @@
+-- A byte, or the source.
 use Rattle.link_tables.proofs.Told.{picks, passes}
 use borrow.Author.Needs.{needs}
 use Rattle.link_tables.proofs.destination_of.Statement.{statement}

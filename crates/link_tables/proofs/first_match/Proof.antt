@@ -1,3 +1,4 @@
+-- No row before place i matches, so the first that does, or the end, is what leads.
 use borrow.Author.Needs.{needs}
 use native.Mathlib.Omega.{arith}
 use Prim.Native.Nat.{ℕ, _≤_, _<_, _-_, _+_, _*_}
@@ -62,7 +63,8 @@ returns c =
     let a = s .args in
     let l = c .before .before .before .before .before .before .loop in
     found-at (a .event) (a .state) (a .value) (a .t .now) (a .used) (l .i) (s .pre .2)
-    (lead-first (λ x. not (hit (a .event * 16 + a .state) (a .value) x)) (a .t .now) (a .used) (l .i) [] (search needs) (l .inv .0) (l .inv .1) (λ h. ap not (sym (c .before .hits .ensures) ∙ c .if1 .taken)))
+    (lead-first (λ x. not (hit (a .event * 16 + a .state) (a .value) x)) (a .t .now) (a .used) (l .i) [] (search needs) (l .inv .0) (l .inv .1)
+    (λ h. ap not (sym (c .before .hits .ensures) ∙ c .if1 .taken)))
 
 add-i : tie.Need-add-i Inv-loop μ-loop
 add-i c = search needs
@@ -81,7 +83,8 @@ returns-2 c =
     let a = s .args in
     let l = c .before .loop in
     found-at (a .event) (a .state) (a .value) (a .t .now) (a .used) (l .i) (s .pre .2)
-    (lead-first (λ x. not (hit (a .event * 16 + a .state) (a .value) x)) (a .t .now) (a .used) (l .i) [] (search needs) (l .inv .0) (l .inv .1) (λ h. absurd (omega arith)))
+    (lead-first (λ x. not (hit (a .event * 16 + a .state) (a .value) x)) (a .t .now) (a .used) (l .i) [] (search needs) (l .inv .0) (l .inv .1)
+    (λ h. absurd (omega arith)))
 
 pub first-match-spec : {M : Type 1} → statement M
 first-match-spec =

@@ -1,3 +1,4 @@
+-- The three tests in their order: the first that fails decides.
 use native.Mathlib.Omega.{arith}
 use Rattle.link_tables.proofs.Laws.{other-head, too-low, by-high}
 use Rattle.link_tables.proofs.hits.Statement.{statement}

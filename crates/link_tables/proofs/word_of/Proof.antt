@@ -1,3 +1,4 @@
+-- 32 bits, or the value.
 use Rattle.link_tables.proofs.Told.{picks, passes}
 use borrow.Author.Needs.{needs}
 use Rattle.link_tables.proofs.word_of.Statement.{statement}
