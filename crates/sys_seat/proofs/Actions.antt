@@ -107,7 +107,8 @@ module _ (c : Caps) (i : Id) (h : Around i) (n : Net) (a : Actor) where
   unfolding act recover
   seat-recover =
       ap systems (bind-guard _ _ _ _ ∙ ap (guard (known (holding i h n a) i) 2) (bind-guard _ _ _ _)) ∙ systems-guard _ _ _ ∙ ap (guard _ 2) (systems-guard _ _ _)
-      ∙ ap (λ (b : Bool). guard b 2 (guard (actor (holding i h n a) i .crashed) 4 (rest _))) (knows c i h n a)
+      ∙ ap (λ (b : Bool). guard b 2 (guard (actor (holding i h n a) i .crashed) 4
+      (rest (withActor i (withMark false (actor (holding i h n a) i .timers) (actor (holding i h n a) i)) (holding i h n a))))) (knows c i h n a)
       ∙ go
     where
       rest : Sys → Outcome Sys
@@ -139,8 +140,8 @@ module _ (c : Caps) (i : Id) (h : Around i) (n : Net) (a : Actor) where
           (runCommands (c .room) i (d .commands) (holding i h n (withLink (d .link) (withTimers (cancelTimer t (a .timers)) a))))
       went d =
           ap systems (bind-guard _ _ _ _) ∙ systems-guard _ _ _
-          ∙ ap (λ (s : Sys). guard _ 1 (systems (bind (planned i s d) (perform (c .room))))) (seat-change i h n a (λ b. withTimers (cancelTimer t (b .timers)) b))
-          ∙ ap (guard _ 1) (finishes c i h n (withTimers (cancelTimer t (a .timers)) a) d)
+          ∙ ap (λ (s : Sys). ignoredIf (not (d .touched) && onlySets t (d .commands)) (systems (bind (planned i s d) (perform (c .room))))) (seat-change i h n a (λ b. withTimers (cancelTimer t (b .timers)) b))
+          ∙ ap (λ (m : Outcome Sys). ignoredIf (not (d .touched) && onlySets t (d .commands)) m) (finishes c i h n (withTimers (cancelTimer t (a .timers)) a) d)
 
 -- A message to the seat.
 module _ (c : Caps) (e : Envelope) (h : Around (e .dst)) (n : Net) (a : Actor) where
@@ -189,10 +190,8 @@ module _ (c : Caps) (i j : Id) (h : Around i) (n : Net) (a : Actor) (gone : ltb 
 pub absent-deliver : (c : Caps) (e : Envelope) (i : Id) (h : Around i) (n : Net) (a : Actor) → ltb (e .dst .0) (length (h .sys .actors)) ≡ false
     → systems (act c (holding i h n a) (Deliver e)) ≡ guard (ltb (e .src .0) (length (h .sys .actors))) 2 (refused 1)
 unfolding act deliver guard bind systems
-absent-deliver c e i h n a gone =
-    ap systems (bind-guard _ _ _ _) ∙ systems-guard _ _ _
-    ∙ ap (λ (b : Bool). guard b 2 (systems (bind (guard (known (holding i h n a) (e .dst) && not (actor (holding i h n a) (e .dst) .crashed)) 1 _) (perform (c .room))))) (known-held c i h n a (e .src))
-    ∙ ap (guard (ltb (e .src .0) (length (h .sys .actors))) 2) (go _)
+absent-deliver c e i h n a gone = rw (known-held c i h n a (e .src), unknown c i (e .dst) h n a gone) (go (ltb (e .src .0) (length (h .sys .actors))))
   where
-    go : (m : Outcome Plan) → systems (bind (guard (known (holding i h n a) (e .dst) && not (actor (holding i h n a) (e .dst) .crashed)) 1 m) (perform (c .room))) ≡ refused 1
-    go m = rw (unknown c i (e .dst) h n a gone)
+    go : (b : Bool) → systems (bind (guard b 2 (refused 1)) (perform (c .room))) ≡ guard b 2 (refused 1)
+    go true = refl
+    go false = refl
