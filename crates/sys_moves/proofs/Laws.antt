@@ -38,7 +38,7 @@ use Rattle.sys_emits.proofs.Laws.{not-both}
 use Rattle.sys_reacts.specs.Views.{limitsOf, refusalOf, frontOf, Safe}
 use Rattle.sys_reacts.specs.declared.First.the-variants as first
 use Rattle.sys_reacts.proofs.Laws.{goes-on, refuses}
-use Rattle.sys_rows.specs.Rows.{RowsLaid, Settled}
+use Rattle.sys_rows.specs.Rows.{RowsLaid, Settled, Kept}
 use Rattle.sys_rows.proofs.Laws.{as-settled, as-stored, stored-laid}
 use Rattle.link_tables.specs.Rows.{RowLaid, orders, commandsIn}
 use Rattle.sys_moves.specs.Views.{Rows, actorWith, running, reacting, Fine, Acted}
@@ -186,17 +186,17 @@ module _ (me : Id) (kind : Kind) (os : List InnerCommand) (t s used n : ℕ) (x 
         same = λ a. absurd (not-both (isDone (r .answer)) t1 a);
       }
 
-      pub acted-stored : any durably os ≡ true → (k' : List ℕ) (q' : List (List ℕ)) → (k' ≡ set w' 5 1) × (q' ≡ p')
+      pub acted-stored : any durably os ≡ true → (k' : List ℕ) (q' : List (List ℕ)) → Kept w' p' k' q'
           → Acted me o (λ last. last) kind used n x (record { answer = r .answer; used = r .used; len = r .len })
           (record { cells = cs'; live = w'; pend = p'; kept = k'; stored = q' })
       unfolding choose runCommands withTimers withStorage
       acted-stored f k' q' e = record {
-        fine = record { net = safe .ready; room = safe .room ∙ fine .room; live = put .laid; kept = stored-laid w' k' p' q' (put .laid) (e .0) (e .1) };
+        fine = record { net = safe .ready; room = safe .room ∙ fine .room; live = put .laid; kept = stored-laid w' p' k' q' e (put .laid) };
         runs = λ a hall last rs.
             ran hall last rs
             ∙ ap (λ (b′ : Bool). runCommands (roomOf (x .cells)) me (choose b′ (Save (noted os d) ∷ []) []) (sysIn me hall kind last cs' (r .used) (r .timers) (b rs))) f
             ∙ run-save me hall (netOf kind last cs' (r .used)) (withTimers (listed (r .timers)) (b rs)) (roomOf (x .cells)) [] (noted os d)
-            ∙ ap (λ (a : Actor). done (holding me hall (netOf kind last cs' (r .used)) a)) (sym (as-stored rs (noted os d) (r .timers) s w w' p' put k' q' (e .0) (e .1)));
+            ∙ ap (λ (a : Actor). done (holding me hall (netOf kind last cs' (r .used)) a)) (sym (as-stored rs (noted os d) (r .timers) s w w' p' put k' q' e));
         stops = λ a. absurd (not-both (isDone (r .answer)) t1 a);
         same = λ a. absurd (not-both (isDone (r .answer)) t1 a);
       }

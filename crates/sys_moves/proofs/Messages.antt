@@ -34,7 +34,7 @@ use Rattle.sys_emits.proofs.Laws.{not-both}
 use Rattle.sys_reacts.specs.declared.First.the-variants as first
 use Rattle.sys_reacts.specs.Views.{frontOf, lastAfter, there}
 use Rattle.sys_reacts.proofs.Deliver.{deliver-is, there-true, there-false, delivered-net}
-use Rattle.sys_rows.specs.Rows.{actorOf, Settled}
+use Rattle.sys_rows.specs.Rows.{actorOf, Settled, Kept}
 use Rattle.sys_rows.proofs.Laws.{as-stored, stored-laid}
 use Rattle.sys_moves.specs.Views.{Rows, actorAt, running, ackedIn, Fine, Acted}
 
@@ -72,14 +72,14 @@ module _ (kind : Kind) (e : Envelope) (v : Number) (x : Rows) (used n : ℕ) (fi
       }
 
   module _ (t : isDone (s .answer) ≡ true) (w' : List ℕ) (p' : List (List ℕ)) (put : Settled d (getD (x .live) 6 0) (getD (x .live) 7 0) (x .live) w' p')
-      (k' : List ℕ) (q' : List (List ℕ)) (kept : (k' ≡ set w' 5 1) × (q' ≡ p')) where
+      (k' : List ℕ) (q' : List (List ℕ)) (kept : Kept w' p' k' q') where
     -- The handler's part, once the message is out.
     handled : (hall : Around (e .dst)) (rs : List Rule) (m : Net) → then hall rs m ≡ done (holding (e .dst) hall m (actorOf rs w' p' k' q'))
     unfolding runCommands withStorage
     handled hall rs m =
         run-save (e .dst) hall m _ (roomOf (x .cells)) [] d
         ∙ ap (λ (a : Actor). done (holding (e .dst) hall m a))
-        (sym (as-stored rs d (getD (x .live) 6 0) (getD (x .live) 7 0) (x .live) w' p' put k' q' (kept .0) (kept .1)))
+        (sym (as-stored rs d (getD (x .live) 6 0) (getD (x .live) 7 0) (x .live) w' p' put k' q' kept))
 
     pub ack-done : Acted (e .dst) o (lastAfter kind e) kind used n x s (record { cells = cs'; live = w'; pend = p'; kept = k'; stored = q' })
     unfolding bind
@@ -88,7 +88,7 @@ module _ (kind : Kind) (e : Envelope) (v : Number) (x : Rows) (used n : ℕ) (fi
         net = net-then;
         room = ch last.Nothing .room ∙ fine .room;
         live = put .laid;
-        kept = stored-laid w' k' p' q' (put .laid) (kept .0) (kept .1);
+        kept = stored-laid w' p' k' q' kept (put .laid);
       };
       runs = λ h hall last rs.
           ap (λ (y : Outcome Net). bind y (then hall rs))

@@ -42,7 +42,7 @@ use Rattle.sys_reacts.specs.declared.First.the-variants as first
 use Rattle.sys_reacts.specs.Views.{limitsOf, refusalOf, frontOf, lastAfter, taking, there, Delivered}
 use Rattle.sys_reacts.proofs.Laws.{goes-on, refuses}
 use Rattle.sys_reacts.proofs.Deliver.{deliver-is}
-use Rattle.sys_rows.specs.Rows.{RowsLaid, Settled, Noticed}
+use Rattle.sys_rows.specs.Rows.{RowsLaid, Settled, Noticed, Kept}
 use Rattle.sys_rows.proofs.Laws.{tail-at, as-stored, stored-laid}
 use Rattle.sys_moves.specs.Views.{Rows, actorWith, running, takenIn, Fine, Acted}
 use Rattle.sys_moves.proofs.Laws.{places-are, outputs, refused-output, asked-few, take-all}
@@ -241,16 +241,16 @@ module _ (kind : Kind) (e : Envelope) (v : Number) (os : List InnerCommand) (s u
         }
 
     pub taken-done : isDone (r .answer) ≡ true → (w' : List ℕ) (p' : List (List ℕ)) → Settled d' (r .timers) s w w' p'
-        → (k' : List ℕ) (q' : List (List ℕ)) → k' ≡ set w' 5 1 → q' ≡ p'
+        → (k' : List ℕ) (q' : List (List ℕ)) → Kept w' p' k' q'
         → Acted (e .dst) o (lastAfter kind e) kind used n x (record { answer = r .answer; used = r .used; len = r .len })
         (record { cells = cs'; live = w'; pend = p'; kept = k'; stored = q' })
     unfolding bind
-    taken-done t w' p' put k' q' k-is q-is = record {
-      fine = record { net = got .ready; room = got .room ∙ fine .room; live = put .laid; kept = stored-laid w' k' p' q' (put .laid) k-is q-is };
+    taken-done t w' p' put k' q' kept = record {
+      fine = record { net = got .ready; room = got .room ∙ fine .room; live = put .laid; kept = stored-laid w' p' k' q' kept (put .laid) };
       runs = λ a hall last rs.
           split hall last rs _ (got .runs t hall last (b rs)) ∙ saves (any durably os) hall (lastAfter kind e last) rs
           ∙ ap (λ (a : Actor). done (holding (e .dst) hall (netOf kind (lastAfter kind e last) cs' (r .used)) a))
-          (sym (as-stored rs d' (r .timers) s w w' p' put k' q' k-is q-is));
+          (sym (as-stored rs d' (r .timers) s w w' p' put k' q' kept));
       stops = λ a. absurd (not-both (isDone (r .answer)) t a);
       same = λ a. absurd (not-both (isDone (r .answer)) t a);
     }

@@ -9,6 +9,8 @@ use Rattle.types.specs.Capacities.{mostEntries, mostPending}
 use Rattle.types.specs.declared.Id.{Id}
 use Rattle.types.specs.declared.Number.{Number}
 use Rattle.types.specs.declared.Kind.{Kind}
+use Rattle.types.specs.declared.Action.{Action}
+use Rattle.types.specs.declared.Action.the-variants.{Deliver, Drop, Timeout, Crash, Recover}
 use Rattle.types.specs.declared.Rule.{Rule}
 use Rattle.types.specs.declared.Envelope.{Envelope}
 use Rattle.types.specs.declared.Message.the-variants.{Ack}
@@ -18,14 +20,14 @@ use Rattle.answers.specs.Answers.{answerNumber, isDone}
 use Rattle.rules.specs.Outcome.{Outcome, done, refused, bind, Caps}
 use Rattle.rules.specs.Network.{Net, onDeliver}
 use Rattle.rules.specs.Link.{Durable, Output, Command, Send, Save, acked, withTaken, output}
-use Rattle.rules.specs.System.{Actor, Sys, runCommands}
+use Rattle.rules.specs.System.{Actor, Sys, systems, runCommands, perform, wake, act}
 use Rattle.link_timers.specs.Views.{listed}
 use Rattle.net_rows.specs.declared.Sent.{Sent}
 use Rattle.net_rows.specs.Views.{netOf, roomOf, NetReady}
 use Rattle.link_tables.specs.Rows.{mark}
 use Rattle.link_rows.specs.Rows.{durableIn}
 use Rattle.sys_seat.specs.Seat.{Around, holding}
-use Rattle.sys_reacts.specs.Views.{limitsOf}
+use Rattle.sys_reacts.specs.Views.{limitsOf, lastAfter}
 use Rattle.sys_rows.specs.Rows.{storedIn, actorOf, RowsLaid}
 
 -- The room is the cells', the places are the rows'.
@@ -103,3 +105,30 @@ pub record Acted (me : Id) (o : Around me → LastMessage → List Rule → Outc
       → o hall last rs ≡ done (sysAt me hall kind (after last) (r .used) rs x')
   pub stops : isDone (r .answer) ≡ false → (hall : Around me) (last : LastMessage) (rs : List Rule) → o hall last rs ≡ refused (answerNumber (r .answer))
   pub same : isDone (r .answer) ≡ false → (x' ≡ x) × (r .used ≡ used) × (r .len ≡ n)
+
+-- ---- a whole action, or a start: the same among so many actors, with these rules
+pub record Ended (me : Id) (count : ℕ) (rs : List Rule) (o : Around me → LastMessage → Outcome Sys) (after : LastMessage → LastMessage) (kind : Kind)
+    (used n : ℕ) (x : Rows) (r : Sent) (x' : Rows) : Type 0 where
+  pub fine : Fine kind (r .used) (r .len) x'
+  pub runs : isDone (r .answer) ≡ true → (hall : Around me) → length (hall .sys .actors) ≡ count → (last : LastMessage)
+      → o hall last ≡ done (sysAt me hall kind (after last) (r .used) rs x')
+  pub stops : isDone (r .answer) ≡ false → (hall : Around me) → length (hall .sys .actors) ≡ count → (last : LastMessage)
+      → o hall last ≡ refused (answerNumber (r .answer))
+  pub same : isDone (r .answer) ≡ false → (x' ≡ x) × (r .used ≡ used) × (r .len ≡ n)
+
+-- The last message after an action that is done.
+unfoldable pub lastThen : Kind → Action → LastMessage → LastMessage
+lastThen kind (Deliver e) last = lastAfter kind e last
+lastThen kind (Drop e) last = last
+lastThen kind (Timeout i t) last = last
+lastThen kind (Crash i) last = last
+lastThen kind (Recover i) last = last
+
+abbrev pub Stepped : ℕ → Action → Id → List Rule → Kind → ℕ → ℕ → Rows → Sent → Rows → Type 0
+Stepped count a me rs kind used n x r x' =
+    Ended me count rs (λ hall last. systems (act (capsOf (x .cells)) (sysAt me hall kind last used rs x) a)) (lastThen kind a) kind used n x r x'
+
+abbrev pub Woken : ℕ → Id → List Rule → Kind → ℕ → ℕ → Rows → Sent → Rows → Type 0
+Woken count me rs kind used n x r x' =
+    Ended me count rs (λ hall last. systems (bind (wake (limitsOf mostPending) me (sysAt me hall kind last used rs x)) (perform (roomOf (x .cells)))))
+    (λ last. last) kind used n x r x'

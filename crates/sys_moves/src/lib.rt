@@ -23,7 +23,7 @@ use types::Number;
 ghost use mathlib.Core.Path.{_≡_};
 ghost use mathlib.Core.List.{[], _∷_};
 ghost use Prim.Native.Nat.{_+_, _≤_, _<_};
-ghost use lib.ListN.{length, getD, set};
+ghost use lib.ListN.{length, getD};
 ghost use Rattle.lists.specs.Lists.{choose};
 ghost use Rattle.types.specs.Capacities.{mostEntries, mostPending, mostActors, lastState};
 ghost use Rattle.types.specs.declared.Message.the-variants.{Ack};
@@ -34,7 +34,7 @@ ghost use Rattle.link_direct.specs.Direct.{noted, sends};
 ghost use Rattle.link_tables.specs.Rows.{RowLaid, orders};
 ghost use Rattle.link_rows.specs.Rows.{durableIn};
 ghost use Rattle.sys_reacts.specs.Views.{lastAfter, there, Delivered};
-ghost use Rattle.sys_rows.specs.Rows.{RowsLaid, Settled};
+ghost use Rattle.sys_rows.specs.Rows.{RowsLaid, Settled, Kept};
 ghost use Rattle.sys_moves.specs.Views.{rowsOf, reacting, ackedIn, takenIn, Fine, Acted};
 
 // The commands of a rule's row, with these timers and this state: 6, 7 or 8 and nothing changed, or all of it done.
@@ -169,10 +169,10 @@ fn take_in(
 )
     requires { ⌜ RowLaid (now row) × RowsLaid (now live) (now pend) × (state ≤ lastState) × (source .0 < mostActors)
         × (getD (now live) 1 0 + sends (orders (now row) source value) ≤ mostPending)
-        × (getD (now live) 0 0 + sends (orders (now row) source value) ≤ 18446744073709551615) ⌝ }
+        × (getD (now live) 0 0 + sends (orders (now row) source value) ≤ 18446744073709551615) × (length (now stored) ≡ mostPending) ⌝ }
     ensures { λ _. ⌜ Settled (noted (orders (now (row .entry)) source value) (withTaken source number (durableIn (now (live .entry)) (now (pend .entry)))))
         timers state (now (live .entry)) (now (live .exit)) (now (pend .exit))
-        × (now (kept .exit) ≡ set (now (live .exit)) 5 1) × (now (stored .exit) ≡ now (pend .exit)) ⌝ }
+        × Kept (now (live .exit)) (now (pend .exit)) (now (kept .exit)) (now (stored .exit)) ⌝ }
 {
     take_number(live, source.0 as u64, number.0);
     settle(live, pend, row, source, value, timers, state);

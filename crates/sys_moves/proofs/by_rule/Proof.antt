@@ -48,7 +48,9 @@ shared-slice-read-if3 : tie.Need-shared-slice-read-if3
 shared-slice-read-if3 c = let z = (c .before .before .before .before .before .before .before .before .before .before .before .before .before .before .before .pre) .1 .room in search needs
 
 store-requires : tie.Need-store-requires
-store-requires c κs = (c .before .before .before .before .before .before .settle) .ensures .laid .room
+store-requires c κs =
+    let s = c .before .before .before .before .before .before .before .before .before .before .before .before .before .before .before .before .before .before .before .before in
+    (c .before .before .before .before .before .before .settle .ensures .laid, s .pre .0 .kept .places)
 
 returns-3 : tie.Need-returns-3
 returns-3 c = let s = (c .before .before .before .before .before .before .before .before .before .before .before .before .before .before .before .before .before .before .before .before .before) in let a = s .args in let os = orders (a .row .now) (a .source) (a .value) in let x : Rows = rowsOf (a .c .now) (a .live .now) (a .pend .now) (a .kept .now) (a .stored .now) in let h : getD (a .live .now) 0 0 ≤ 18446744073709551615 = (c .before .before .before .before .before .before .before .before .before .before .before .before .before .before .before .before .refusal) .ensures .1 in let e = (c .before .before .before .before .before .before .before .before .before .before .before .before .before .before .before .before .refusal) .ensures .0 ∙ ap (λ (k : ℕ). answerOf (refusalOf (getD (a .live .now) 0 0) (getD (a .live .now) 1 0) mostPending k)) (s .pre .1 .sends (a .source) (a .value)) in let g = enough (a .me) (a .kind) os (a .timers) (a .state) (a .used) (a .len) x (s .pre .0) ((c .before .before .before .before .before .before .before .before .before .before .before .before .before .before .before .before .refusal) .result) e h (sym ((c .before .before .before .before .before .before .before .before .before .before .before .before .before .before .before .is-done) .ensures) ∙ not-false _ ((c .before .before .before .before .before .before .before .before .before .before .before .before .before .before .if1) .left)) in acted-stored (a .me) (a .kind) os (a .timers) (a .state) (a .used) (a .len) x (s .pre .0) (g .0) (g .1) (row-four (a .row .now) (a .source) (a .value) (s .pre .1)) ((c .before .before .before .before .before .before .before .before .before .before .before .before .react-row) .result) ((c .before .before .before .before .before .before .before .before .before .before .before .before .react-row) .last .0) (a .source) ((c .before .before .before .before .before .before .before .before .before .before .before .before .react-row) .ensures) (sym ((c .before .before .before .before .before .before .before .before .before .before .before .is-done2) .ensures) ∙ not-false _ ((c .before .before .before .before .before .before .before .before .before .before .if2) .left)) ((c .before .before .before .before .before .before .before .settle) .last .0) ((c .before .before .before .before .before .before .before .settle) .last .1 .0) ((c .before .before .before .before .before .before .before .settle) .ensures) (sym (s .pre .1 .durable (a .source) (a .value)) ∙ eq-eqb _ _ ((c .before .before .before .before .before .if3) .taken)) ((c .store) .last .1 .1 .0) ((c .store) .last .1 .1 .1 .0) ((c .store) .ensures)
