@@ -46,7 +46,7 @@ module _ (k : ℕ) (b : k ≤ mostActors) (i : Id) (t : Table) (ok : tableOk t �
       let f = formed.stored-formed (base .limits) k (storedView s) (stored-formed k s h) in
       kept k (startLink s) _ x b e (formed.start-formed (base .limits) k i (rulesOf t) tables (storedView s) f)
       (record {
-        durable = durable-kept k (rules.durableOf (storedView s)) b (formed.is-durable (base .limits) k (rules.durableOf (storedView s)) f);
+        durable = durable-kept k (rules.durableOf rules.fresh (storedView s)) b (formed.is-durable (base .limits) k (rules.durableOf rules.fresh (storedView s)) f);
         state≤ = lit≤ tt;
       })
 
