@@ -95,8 +95,8 @@ module _ (kind count : ℕ) (tables : List Table) (g : Given) where
         and-make _ _
         (every-make _ _ (le-leb _ _ (f .few)) (every-make _ _ (all-make _ _ (λ t m. table-parts t (all-in _ _ (f .tables-ok) t m) .0))
         (every-make _ _ (le-leb _ _ (f .held)) every-nil)))
-        (subst
-        (λ (k : ℕ). every (leb 1 k ∷ leb k mostActors ∷ leb kind 2 ∷ all sound (tablesView count tables) ∷ all (sourceKnown k) (givenView g) ∷ []) ≡ true) n
+        (subst (λ (k : ℕ). every (leb 1 k ∷ leb k mostActors ∷ leb kind 2 ∷ all sound (tablesView count tables)
+        ∷ all (sourceKnown k) (givenView g) ∷ []) ≡ true) n
         (every-make _ _ (le-leb _ _ (f .some)) (every-make _ _ (le-leb _ _ (f .few)) (every-make _ _ (le-leb _ _ (f .kinds))
         (every-make _ _ (tables-sound (take count tables) (f .tables-ok)) (every-make _ _ (f .sources) every-nil))))))
 
