@@ -183,7 +183,7 @@ pub fn fresh_durable() -> Durable
 // The one that a start begins with.
 pub fn stored_or_fresh(s: Stored) -> Durable
     requires { ⌜ storedLaid s ≡ true ⌝ }
-    ensures { λ r. ⌜ r ≡ durableAs (durableOf (storedView s)) ⌝ }
+    ensures { λ r. ⌜ r ≡ durableAs (durableOf fresh (storedView s)) ⌝ }
 {
     if s.some {
         return s.durable;

@@ -200,22 +200,22 @@ module _ (t : Table) (ok : tableOk t ≡ true) where
   start-back x v e = ap replyOf e ∙ reply-back _ (start-few (rulesOf t) v rules-ok)
 
 -- ---- a start, from what is stored
-pub stored-whole : (s : Stored) (d : Durable) → storedLaid s ≡ true → d ≡ durableAs (rules.durableOf (storedView s)) → Whole d
+pub stored-whole : (s : Stored) (d : Durable) → storedLaid s ≡ true → d ≡ durableAs (rules.durableOf rules.fresh (storedView s)) → Whole d
 unfolding storedLaid storedView rules.durableOf rules.fresh choose
 stored-whole s d e f = go (s .some) f
   where
-    go : (b : Bool) → d ≡ durableAs (rules.durableOf (choose b (some (durableView (s .durable))) none)) → Whole d
+    go : (b : Bool) → d ≡ durableAs (rules.durableOf rules.fresh (choose b (some (durableView (s .durable))) none)) → Whole d
     go true q = let h = durable-small (s .durable) (every-cons _ _ e .0) in whole-is d _ q (h .0) (h .1)
     go false q = whole-is d _ q (lit≤ tt) (lit≤ tt)
 
-pub start-as : (c : Limits) (i : Id) (rs : List Rule) (st : Option rules.Durable) (d : Durable) (y : Reply) → d ≡ durableAs (rules.durableOf st)
+pub start-as : (c : Limits) (i : Id) (rs : List Rule) (st : Option rules.Durable) (d : Durable) (y : Reply) → d ≡ durableAs (rules.durableOf rules.fresh st)
     → y ≡ atStart rs (d .inner)
     → didAs (record { durable = d; state = 0 }) (rules.starting c i (durableView d) y)
-    ≡ didAs (linkAs (record { durable = rules.durableOf st; state = 0 })) (rules.onStart c i rs st)
+    ≡ didAs (linkAs (record { durable = rules.durableOf rules.fresh st; state = 0 })) (rules.onStart c i rs st)
 unfolding rules.onStart
 start-as c i rs st d y e f =
-    let v : durableView d ≡ rules.durableOf st = ap durableView e ∙ durable-back (rules.durableOf st) in
-    let u : y ≡ atStart rs (rules.durableOf st .inner) = f ∙ ap (λ (x : Durable). atStart rs (x .inner)) e in
+    let v : durableView d ≡ rules.durableOf rules.fresh st = ap durableView e ∙ durable-back (rules.durableOf rules.fresh st) in
+    let u : y ≡ atStart rs (rules.durableOf rules.fresh st .inner) = f ∙ ap (λ (x : Durable). atStart rs (x .inner)) e in
     λ j. didAs (record { durable = e j; state = 0 }) (rules.starting c i (v j) (u j))
 
 -- the output of what was made of a number taken, seen as the rules say it

@@ -44,9 +44,10 @@ module _ (k : ℕ) (b : k ≤ mostActors) (i : Id) (t : Table) (ok : tableOk t �
       → LinkFine k (x .link)
   start-kept s h e =
       let f = formed.stored-formed (base .limits) k (storedView s) (stored-formed k s h) in
+      let d = rules.durableOf rules.fresh (storedView s) in
       kept k (startLink s) _ x b e (formed.start-formed (base .limits) k i (rulesOf t) tables (storedView s) f)
       (record {
-        durable = durable-kept k (rules.durableOf (storedView s)) b (formed.is-durable (base .limits) k (rules.durableOf (storedView s)) f);
+        durable = durable-kept k d b (formed.is-durable (base .limits) k d f);
         state≤ = lit≤ tt;
       })
 

@@ -45,7 +45,7 @@ concluded l y s = choose (y .going)
 
 -- The link that a start sets out with.
 abbrev pub startLink : Stored → Link
-startLink s = linkAs (record { durable = rules.durableOf (storedView s); state = 0 })
+startLink s = linkAs (record { durable = rules.durableOf rules.fresh (storedView s); state = 0 })
 
 -- ---- what the handlers promise, for every number that the actor may have: only the events name it, and the code has none
 abbrev pub Starts : Table → Stored → Did → Type 0

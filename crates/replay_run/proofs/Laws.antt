@@ -20,6 +20,7 @@ use Rattle.answers.specs.Answers.{answerNumber, answerOf}
 use Rattle.layout.specs.Read.{Reading, read, badAt, one}
 use Rattle.rules.specs.Outcome.{Outcome, done, refused, base}
 use Rattle.rules.specs.Network.{len}
+use Rattle.rules.specs.System.{systems}
 use Rattle.rules.specs.System as rules
 use Rattle.rules.specs.Run.{step, answer, after, answers, Totals, counted, totals}
 use Rattle.rules.specs.WellFormed.{wellFormed}
@@ -32,7 +33,6 @@ use Rattle.net_network.specs.declared.Network.{Network}
 use Rattle.net_network.specs.Views.{netView}
 use Rattle.link_inner.specs.declared.Table.{Table}
 use Rattle.sys_actor.specs.declared.Actor.{Actor}
-use Rattle.parts.specs.Parts.{systems}
 use Rattle.script_records.specs.declared.ActionRead.{ActionRead}
 use Rattle.script_records.specs.declared.ActionRead.the-variants.{Act, End, Bad}
 use Rattle.script_records.specs.Views.{actionRead}

@@ -19,8 +19,8 @@ use Rattle.answers.specs.Answers.{answerNumber, answerOf}
 use Rattle.layout.specs.Read.{Reading, read, badAt}
 use Rattle.rules.specs.Outcome.{Outcome, done, refused, base}
 use Rattle.rules.specs.Network.{len}
-use Rattle.rules.specs.System.{Sys, Next}
-use Rattle.rules.specs.Start.{blank, boot, start}
+use Rattle.rules.specs.System.{Sys, Next, systems}
+use Rattle.rules.specs.Start.{blank, Setup, boot, start}
 use Rattle.rules.specs.Run.{answer, after, totals}
 use Rattle.rules.specs.WellFormed.{wellFormed}
 use Rattle.rules.specs.Script.{versions, formatOf, Fine, readScript, actionsFrom}
@@ -31,7 +31,6 @@ use Rattle.rules.proofs.Answers.{startNumbers, start-answers, start-done}
 use Rattle.rules.proofs.Formed.{start-well}
 use Rattle.net_network.specs.Views.{netView}
 use Rattle.answers.specs.Answers.{isDone}
-use Rattle.parts.specs.Parts.{systems}
 use Rattle.script_check.specs.declared.Layout.{Layout}
 use Rattle.script_check.specs.declared.Layout.the-variants as layout
 use Rattle.script_check.specs.Views.{layoutOf}
@@ -73,8 +72,11 @@ begun-of (refused n) h z (inr e) = let y = number-back n e in not-ran n (y .1) (
 
 -- ---- a script whose layout is good
 module _ (s : List ℕ) (p : Parts versions s) where
+  abbrev setup : Setup
+  setup = record { kind = p .opening .kind }
+
   abbrev pub m : Outcome Next
-  m = start base (p .opening .kind) (p .opening .tables) (p .opening .envelopes)
+  m = start base setup (p .opening .tables) (p .opening .envelopes)
 
   pub said : replay base versions s ≡ startLine m ++ runLines base m (p .actions)
   unfolding replay replayed
@@ -82,9 +84,9 @@ module _ (s : List ℕ) (p : Parts versions s) where
 
   pub begun : (r : Answered) → r ≡ answeredOf (systemOf blank) (systems m) → Begun m r
   begun r e = subst (Begun m) (sym e)
-      (begun-of m (start-well base (p .opening .kind) (p .opening .tables) (p .opening .envelopes))
-      (start-done base (p .opening .kind) (p .opening .tables) (p .opening .envelopes))
-      (start-answers base (p .opening .kind) (p .opening .tables) (p .opening .envelopes)))
+      (begun-of m (start-well base setup (p .opening .tables) (p .opening .envelopes))
+      (start-done base setup (p .opening .tables) (p .opening .envelopes))
+      (start-answers base setup (p .opening .tables) (p .opening .envelopes)))
 
 pub number-is : {m : Outcome Next} {r : Answered} → Begun m r → answerNumber (r .answer) ≡ answer m
 unfolding answer
@@ -182,8 +184,8 @@ pub good-longest : (s : List ℕ) (p : Parts versions s) → length (replay base
 good-longest s p =
     subst (λ (l : List ℕ). length l ≤ longest (length s)) (sym (said s p))
     (whole-short (formatOf versions (p .opening .version)) (m s p) s (p .next) (p .actions)
-    (start-well base (p .opening .kind) (p .opening .tables) (p .opening .envelopes))
-    (start-answers base (p .opening .kind) (p .opening .tables) (p .opening .envelopes)) (p .short) (p .readsActions))
+    (start-well base (setup s p) (p .opening .tables) (p .opening .envelopes))
+    (start-answers base (setup s p) (p .opening .tables) (p .opening .envelopes)) (p .short) (p .readsActions))
 
 -- ---- a script whose layout is bad
 said-bad : (s : List ℕ) (p : ℕ) → layoutOf (readScript versions s) ≡ layout.Bad p → replay base versions s ≡ line badWord (p ∷ [])

@@ -16,11 +16,11 @@ use Rattle.types.specs.declared.Format.{Format}
 use Rattle.types.specs.declared.Rule.{Rule}
 use Rattle.layout.specs.Read.{read, badAt, Reader, one, onward, joining, repeat}
 use Rattle.rules.specs.Outcome.{guard, base}
+use Rattle.rules.specs.System.{systems}
 use Rattle.rules.specs.Start.{blank, start}
 use Rattle.rules.specs.Script.{Header, Opening, versions, formatOf, Fine, headerForm, ruleCountForm, ruleForm, envelopeCountForm, envelopeForm, tableFrom}
 use Rattle.rules.specs.Script.{envelopesFrom, listsFrom, openingFrom}
 use Rattle.rules.proofs.Formats.{formats-fine}
-use Rattle.parts.specs.Parts.{systems}
 use Rattle.link_inner.specs.declared.Table.{Table}
 use Rattle.link_inner.specs.Views.{rulesOf}
 use Rattle.link_durable.proofs.Containers.{pad-view}
@@ -113,12 +113,12 @@ module _ {o : Opening} (w : Laid o) {tables : List Table} (laid : tables ≡ pad
 
   pub started-is
       : (kind : ℕ) (g : Given) → g .list ≡ pad mostEntries zeroEnvelope (o .envelopes) → g .used ≡ length (o .envelopes)
-      → started kind (length (o .tables)) tables g ≡ systems (start base kind (o .tables) (o .envelopes))
+      → started kind (length (o .tables)) tables g ≡ systems (start base (record { kind = kind }) (o .tables) (o .envelopes))
   unfolding started guard
   started-is kind g e n =
       let r = ap (map rulesOf) tables-taken ∙ map-back tableAs rulesOf rules-back (o .tables) in
       let s = (λ i. take (n i) (e i)) ∙ pad-view mostEntries zeroEnvelope (o .envelopes) in
-      rw (start-laid g (omega (arith, w .given))) (λ i. systems (start base kind (r i) (s i)))
+      rw (start-laid g (omega (arith, w .given))) (λ i. systems (start base (record { kind = kind }) (r i) (s i)))
 
 -- ---- the answer, from what the opening's answer holds
 pub opened-is

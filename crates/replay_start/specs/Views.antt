@@ -2,17 +2,16 @@
 -- Assumes nothing.
 use Rattle.layout.specs.Read.{Reading, read, badAt}
 use Rattle.rules.specs.Outcome.{Outcome, refused, base}
-use Rattle.rules.specs.System.{Next}
+use Rattle.rules.specs.System.{Next, systems}
 use Rattle.rules.specs.Start.{blank, start}
 use Rattle.rules.specs.Script.{Opening}
-use Rattle.parts.specs.Parts.{systems}
 use Rattle.system.specs.Views.{systemOf}
 use Rattle.system_parts.specs.Views.{answeredOf}
 use Rattle.replay_start.specs.declared.Opened.{Opened}
 
 -- The start of what was read. A bad record is refused as 11.
 abbrev pub startOf : Opening → Outcome Next
-startOf o = start base (o .kind) (o .tables) (o .envelopes)
+startOf o = start base (record { kind = o .kind }) (o .tables) (o .envelopes)
 
 abbrev pub openedOf : Reading Opening → Opened
 openedOf (read o xs p) = record { answered = answeredOf (systemOf blank) (systems (startOf o)); version = o .version; next = p }

@@ -16,12 +16,11 @@ use Rattle.types.specs.Capacities.{mostActors}
 use Rattle.lists.specs.Lists.{_∈_, all, pad}
 use Rattle.lists.proofs.Members.{all-in}
 use Rattle.lists.proofs.Places.{append-pad}
-use Rattle.types.specs.declared.Kind.{Kind}
 use Rattle.types.specs.declared.Kind.the-variants.{UnorderedNonDuplicating}
 use Rattle.types.specs.declared.Rule.{Rule}
 use Rattle.rules.specs.Network.{Net, kindOf}
 use Rattle.rules.specs.System as rules
-use Rattle.rules.specs.Start.{boot}
+use Rattle.rules.specs.Start.{Setup, boot}
 use Rattle.net_network.specs.Views.{networkOf}
 use Rattle.link_inner.specs.declared.Table.{Table}
 use Rattle.link_inner.specs.Views.{rulesOf, tableOk}
@@ -86,7 +85,7 @@ own-all (t ∷ l) h = ap₂ (λ (x : Table) (r : List Table). x ∷ r) (sym (h t
 
 module _ (count : ℕ) (tables : List Table) (room : length tables ≡ mostActors) (typed : (t : Table) → t ∈ tables → TableTyped t) where
   -- The arrays that the code makes are those of the rules' first system.
-  pub first-system : count ≤ mostActors → all tableOk (take count tables) ≡ true → (k : Kind) (n : Net)
+  pub first-system : count ≤ mostActors → all tableOk (take count tables) ≡ true → (u : Setup) (n : Net)
       → _≡_ {A = System} (record {
         count = count;
         network = networkOf n;
@@ -94,9 +93,9 @@ module _ (count : ℕ) (tables : List Table) (room : length tables ≡ mostActor
             pad mostActors zeroActor (replicate count (actorAs (rules.unstarted [])));
         tables = pad mostActors zeroTable (take count tables);
       })
-      (systemOf (rules.withNet n (boot k (tablesView count tables))))
+      (systemOf (rules.withNet n (boot u (tablesView count tables))))
   unfolding boot rules.withNet
-  first-system h e k n =
+  first-system h e u n =
       let l = take count tables in
       let m : length (tablesView count tables) ≡ count = length-map l rulesOf ∙ length-take-le count tables (omega arith) in
       let c = sym (length-map (tablesView count tables) rules.unstarted ∙ m) in

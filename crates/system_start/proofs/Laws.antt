@@ -16,15 +16,15 @@ use Rattle.answers.specs.Answers.{answerOf}
 use Rattle.types.specs.declared.Rule.{Rule}
 use Rattle.rules.specs.Outcome.{Outcome, done, refused, bind, guard, base}
 use Rattle.rules.specs.Network.{Net, kindOf}
-use Rattle.rules.specs.System.{Sys, Next, withNet}
+use Rattle.rules.specs.System.{Sys, Next, withNet, systems}
 use Rattle.rules.specs.System as rules
 use Rattle.rules.specs.WellFormed.{sourceKnown, wellFormed}
-use Rattle.rules.specs.Start.{fill, wakeAll, boot, blank, startable, start}
+use Rattle.rules.specs.Start.{fill, wakeAll, Setup, boot, blank, startable, start}
 use Rattle.rules.specs.Run.{answer}
 use Rattle.rules.proofs.Laws.{holds-guard}
 use Rattle.rules.proofs.Formed.{Left, is-sys, fill-formed, boot-formed, boot-marks, boot-size, start-well}
 use Rattle.rules.proofs.Answers.{Among, on-guard, start-answers, start-done}
-use Rattle.parts.specs.Parts.{systems, mapped}
+use Rattle.parts.specs.Parts.{mapped}
 use Rattle.parts.proofs.Outcomes.{systems-guard, systems-bind, guarded, unguarded}
 use Rattle.net_network.specs.declared.Sent.{Sent}
 use Rattle.net_network.specs.Views.{networkOf, sentOf}
@@ -71,16 +71,20 @@ started-among : (kind count : ℕ) (tables : List Table) (g : Given) → Among r
 unfolding started answerOf
 started-among kind count tables g =
     let ts = tablesView count tables in
-    subst (Among refusal) (sym (systems-guard (startLaid count tables g) 10 (start base kind ts (givenView g))))
-    (on-guard refusal refl refl refl _ _ _ refl (among-numbers (start base kind ts (givenView g)) (start-answers base kind ts (givenView g))
-    (start-done base kind ts (givenView g))))
+    let u : Setup = record { kind = kind } in
+    subst (Among refusal) (sym (systems-guard (startLaid count tables g) 10 (start base u ts (givenView g))))
+    (on-guard refusal refl refl refl _ _ _ refl (among-numbers (start base u ts (givenView g)) (start-answers base u ts (givenView g))
+    (start-done base u ts (givenView g))))
 
 module _ (kind count : ℕ) (tables : List Table) (g : Given) where
   abbrev ts : List (List Rule)
   ts = tablesView count tables
 
+  abbrev u : Setup
+  u = record { kind = kind }
+
   abbrev first : Sys
-  first = boot (kindOf kind) ts
+  first = boot u ts
 
   abbrev sent : Outcome Net
   sent = sendAll (base .room) (givenView g) (emptyNet (kindOf kind))
@@ -92,7 +96,7 @@ module _ (kind count : ℕ) (tables : List Table) (g : Given) where
   stages : started kind count tables g ≡ guard (startFine kind count tables g) 10
       (systems (bind (fill (base .room) (givenView g) first) (wakeAll base 0 (first .actors))))
   unfolding started startFine start
-  stages = ap systems (guard-both (startLaid count tables g) (startable kind ts (givenView g)) 10 _) ∙ systems-guard _ _ _
+  stages = ap systems (guard-both (startLaid count tables g) (startable u ts (givenView g)) 10 _) ∙ systems-guard _ _ _
 
   pub start-refused : startFine kind count tables g ≡ false → started kind count tables g ≡ refused 10
   start-refused e = stages ∙ unguarded _ _ _ e
@@ -136,10 +140,10 @@ module _ (kind count : ℕ) (tables : List Table) (g : Given) where
     unfolding mapped
     left =
         let n = count-seen count tables room (fine .few) in
-        let b = boot-formed base (kindOf kind) ts (subst (λ (k : ℕ). 1 ≤ k) (sym n) (fine .some)) (subst (λ (k : ℕ). k ≤ mostActors) (sym n) (fine .few))
+        let b = boot-formed base u ts (subst (λ (k : ℕ). 1 ≤ k) (sym n) (fine .some)) (subst (λ (k : ℕ). k ≤ mostActors) (sym n) (fine .few))
         (tables-sound (take count tables) (fine .tables-ok)) in
         fill-formed base (givenView g) first b
-        (λ x i. subst (λ (k : ℕ). sourceKnown k x ≡ true) (sym (boot-size base (kindOf kind) ts ∙ n)) (all-in _ _ (fine .sources) x i))
+        (λ x i. subst (λ (k : ℕ). sourceKnown k x ≡ true) (sym (boot-size base u ts ∙ n)) (all-in _ _ (fine .sources) x i))
         .value m (filled ∙ ap (mapped (λ (n : Net). withNet n first)) (net .1))
 
     formed : wellFormed base m ≡ true
@@ -155,10 +159,10 @@ module _ (kind count : ℕ) (tables : List Table) (g : Given) where
       made-is =
           let w : s .network ≡ networkOf (net .0) = ap (λ (x : Sent). x .network) (f ∙ ap (sentOf (networkOf (emptyNet (kindOf kind)))) (net .1)) in
           (λ y. record { count = count; network = w y; actors = fresh y; tables = kept y })
-          ∙ first-system count tables room typed (fine .few) (fine .tables-ok) (kindOf kind) (net .0)
+          ∙ first-system count tables room typed (fine .few) (fine .tables-ok) u (net .0)
 
       pub made-awaits : Awaiting made
-      made-awaits = subst Awaiting (sym made-is) (image-awaits m formed (λ j. left .marks j ∙ boot-marks base (kindOf kind) ts j))
+      made-awaits = subst Awaiting (sym made-is) (image-awaits m formed (λ j. left .marks j ∙ boot-marks base u ts j))
 
       pub made-wakes : systems (wakeAll base 0 (sysView made .actors) (sysView made)) ≡ started kind count tables g
       unfolding bind mapped withNet
@@ -172,7 +176,7 @@ module _ (kind count : ℕ) (tables : List Table) (g : Given) where
   unfolding started
   started-formed m e =
       let x = systems-done _ m e in
-      ap (wellFormed base) (sym (x .2)) ∙ holds-guard (startLaid count tables g) 10 _ (λ _. start-well base kind ts (givenView g)) .value (x .0) (x .1)
+      ap (wellFormed base) (sym (x .2)) ∙ holds-guard (startLaid count tables g) 10 _ (λ _. start-well base u ts (givenView g)) .value (x .0) (x .1)
 
   -- The struct that is handed back then holds it, and is ready.
   pub started-ready : (m : Sys) → started kind count tables g ≡ done m → Ready (systemOf m)

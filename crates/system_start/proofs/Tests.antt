@@ -3,7 +3,7 @@
 use Prim.Native.Nat.{ℕ, _≤_}
 use native.Mathlib.Omega.{arith}
 use mathlib.Core.Path.{_≡_, sym, subst, _∙_}
-use mathlib.Core.Bool.{Bool, true, _&&_}
+use mathlib.Core.Bool.{Bool, true}
 use mathlib.Core.List.{List, [], _∷_, map}
 use lib.ListN.{length, take, length-map}
 use lib.Seq.{length-take-le}
@@ -73,20 +73,19 @@ module _ (kind count : ℕ) (tables : List Table) (g : Given) where
         let x = and-both (every (leb count mostActors ∷ all tableLaid (take count tables) ∷ leb (g .used) mostEntries ∷ [])) _ e in
         let y = every-cons _ _ (x .0) in
         let z = every-cons _ _ (y .1) in
-        let a = and-both (leb 1 (length ts) && leb (length ts) mostActors && leb kind 2 && all sound ts) _ (x .1) in
-        let b = and-both (leb 1 (length ts) && leb (length ts) mostActors && leb kind 2) _ (a .0) in
-        let c = and-both (leb 1 (length ts) && leb (length ts) mostActors) _ (b .0) in
-        let d = and-both (leb 1 (length ts)) _ (c .0) in
+        let a = every-cons _ _ (x .1) in
+        let b = every-cons _ _ (every-cons _ _ (a .1) .1) in
+        let c = every-cons _ _ (b .1) in
         let few = leb-true _ _ (y .0) in
         let n = count-seen count tables room few in
-        let some : 1 ≤ length ts = leb-true _ _ (d .0) in
+        let some : 1 ≤ length ts = leb-true _ _ (a .0) in
         record {
           some = omega arith;
           few = few;
-          kinds = leb-true _ _ (c .1);
-          tables-ok = tables-fine (take count tables) (z .0) (b .1);
+          kinds = leb-true _ _ (b .0);
+          tables-ok = tables-fine (take count tables) (z .0) (c .0);
           held = leb-true _ _ (every-cons _ _ (z .1) .0);
-          sources = subst (λ (k : ℕ). all (sourceKnown k) (givenView g) ≡ true) n (a .1);
+          sources = subst (λ (k : ℕ). all (sourceKnown k) (givenView g) ≡ true) n (every-cons _ _ (c .1) .0);
         }
 
     of-fine : Fine → startFine kind count tables g ≡ true
@@ -96,9 +95,10 @@ module _ (kind count : ℕ) (tables : List Table) (g : Given) where
         and-make _ _
         (every-make _ _ (le-leb _ _ (f .few)) (every-make _ _ (all-make _ _ (λ t m. table-parts t (all-in _ _ (f .tables-ok) t m) .0))
         (every-make _ _ (le-leb _ _ (f .held)) every-nil)))
-        (subst (λ (k : ℕ). (leb 1 k && leb k mostActors && leb kind 2 && all sound (tablesView count tables) && all (sourceKnown k) (givenView g)) ≡ true) n
-        (and-make _ _ (and-make _ _ (and-make _ _ (and-make _ _ (le-leb _ _ (f .some)) (le-leb _ _ (f .few))) (le-leb _ _ (f .kinds)))
-        (tables-sound (take count tables) (f .tables-ok))) (f .sources)))
+        (subst (λ (k : ℕ). every (leb 1 k ∷ leb k mostActors ∷ leb kind 2 ∷ all sound (tablesView count tables)
+        ∷ all (sourceKnown k) (givenView g) ∷ []) ≡ true) n
+        (every-make _ _ (le-leb _ _ (f .some)) (every-make _ _ (le-leb _ _ (f .few)) (every-make _ _ (le-leb _ _ (f .kinds))
+        (every-make _ _ (tables-sound (take count tables) (f .tables-ok)) (every-make _ _ (f .sources) every-nil))))))
 
     pub fine-tests : startFine kind count tables g ≡ every tests
     fine-tests = same-true _ _ (λ e. to-tests (fine-of e)) (λ e. of-fine (of-tests e))

@@ -13,12 +13,13 @@ use Rattle.answers.specs.Answers.{answerOf}
 use Rattle.answers.specs.declared.Answer.the-variants.{Done}
 use Rattle.types.specs.declared.Id.{Id}
 use Rattle.rules.specs.Outcome.{Outcome, done, refused, bind, Caps, base}
-use Rattle.rules.specs.System.{Sys, Next, wake, ended}
+use Rattle.rules.specs.System.{Sys, Next, systems, ended}
 use Rattle.rules.specs.System as rules
 use Rattle.rules.specs.WellFormed.{wellFormed}
 use Rattle.rules.specs.Start.{joined, wakeAll, blank}
-use Rattle.rules.proofs.Formed.{sys-is, is-sys, wake-formed}
-use Rattle.parts.specs.Parts.{Part, partOf, putBack, wakePart, systems, mapped}
+use Rattle.rules.proofs.Laws.{woken}
+use Rattle.rules.proofs.Formed.{sys-is, is-sys, woken-formed}
+use Rattle.parts.specs.Parts.{Part, partOf, putBack, wakePart, mapped}
 use Rattle.parts.proofs.Laws.{put-part, wake-parts}
 use Rattle.parts.proofs.Answers.{on-wake}
 use Rattle.parts.proofs.Kept.{Ruled, wake-ruled}
@@ -61,13 +62,13 @@ wakes-bound c i more (done x) = joins (wakeAll c (suc i) more (x .sys)) x
 wakes-bound c i more (refused k) = refl
 
 wakes-cons : (c : Caps) (i : ℕ) (a : rules.Actor) (more : List rules.Actor) (s : Sys)
-    → systems (wakeAll c i (a ∷ more) s) ≡ bind (systems (wake c (record { 0 = i }) s)) (λ t. systems (wakeAll c (suc i) more t))
+    → systems (wakeAll c i (a ∷ more) s) ≡ bind (systems (woken c (record { 0 = i }) s)) (λ t. systems (wakeAll c (suc i) more t))
 unfolding wakeAll
-wakes-cons c i a more s = wakes-bound c i more (wake c (record { 0 = i }) s)
+wakes-cons c i a more s = wakes-bound c i more (woken c (record { 0 = i }) s)
 
 -- one actor's wake, on its part
-woken-part : (i : Id) (s : Sys) → i .0 < length (s .actors) → systems (wake base i s) ≡ mapped (putBack i s) (wakePart base i (partOf i s))
-woken-part i s h = ap (λ (t : Sys). systems (wake base i t)) (sym (put-part i s)) ∙ wake-parts i s h base (partOf i s)
+woken-part : (i : Id) (s : Sys) → i .0 < length (s .actors) → systems (woken base i s) ≡ mapped (putBack i s) (wakePart base i (partOf i s))
+woken-part i s h = ap (λ (t : Sys). systems (woken base i t)) (sym (put-part i s)) ∙ wake-parts i s h base (partOf i s)
 
 pub systems-done : (o : Outcome Next) (m : Sys) → systems o ≡ done m → (x : Next) × (o ≡ done x) × (x .sys ≡ m)
 unfolding systems
@@ -84,10 +85,10 @@ record Kept (t : Sys) : Type 0 where
   live : (j : Id) → rules.actor t j .crashed ≡ false
 
 wake-kept : (i : Id) (s t : Sys) → wellFormed base s ≡ true → ((j : Id) → rules.actor s j .crashed ≡ false) → i .0 < length (s .actors)
-    → systems (wake base i s) ≡ done t → Kept t
+    → systems (woken base i s) ≡ done t → Kept t
 wake-kept i s t ok live h e =
-    let x = systems-done (wake base i s) t e in
-    let l = wake-formed base i s (sys-is base s ok) h (live i) .value (x .0) (x .1) in
+    let x = systems-done (woken base i s) t e in
+    let l = woken-formed base i s (sys-is base s ok) h (live i) .value (x .0) (x .1) in
     subst Kept (x .2) (record { formed = is-sys base (x .0 .sys) (l .formed); live = λ j. l .marks j ∙ live j })
 
 -- The struct of a well-formed system is ready.
@@ -187,7 +188,7 @@ module _ (s : System) (i : ℕ) (network : Network) (actors : List Actor) (first
         let q = done-of out (on-wake refusal refl refl refl base id _) (sym answered ∙ e) in
         let p = q .0 in
         let x : w ≡ touchedOf network a (done p) = seen ∙ ap (touchedOf network a) (q .1) in
-        let k : systems (wake base id m) ≡ done (putBack id m p) = woken-part id m inside ∙ ap (mapped (putBack id m)) (q .1) in
+        let k : systems (woken base id m) ≡ done (putBack id m p) = woken-part id m inside ∙ ap (mapped (putBack id m)) (q .1) in
         let f = wake-kept id m (putBack id m p) (g .awaits .ready .formed) (g .awaits .live) inside k in
         let r = wake-ruled (rules.actor m id .rules) base id (partOf id m) (part-ruled id m) .value p (q .1) .rules in
         let z : withParts s (w .network) (set actors i (w .actor)) ≡ systemOf (putBack id m p) =

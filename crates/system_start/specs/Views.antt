@@ -15,9 +15,8 @@ use Rattle.types.specs.declared.LastMessage.the-variants.{Nothing}
 use Rattle.types.specs.declared.Rule.{Rule}
 use Rattle.rules.specs.Outcome.{Outcome, done, bind, guard, Room, base}
 use Rattle.rules.specs.Network.{Net, send}
-use Rattle.rules.specs.System.{Sys, actor}
+use Rattle.rules.specs.System.{Sys, actor, systems}
 use Rattle.rules.specs.Start.{startable, start}
-use Rattle.parts.specs.Parts.{systems}
 use Rattle.link_inner.specs.declared.Table.{Table}
 use Rattle.link_inner.specs.Views.{rulesOf}
 use Rattle.system.specs.declared.System.{System}
@@ -39,12 +38,12 @@ startLaid count tables g = every (leb count mostActors ∷ all tableLaid (take c
 
 -- The start: 10 for what the lists cannot show, then what the rules say.
 unfoldable pub started : ℕ → ℕ → List Table → Given → Outcome Sys
-started kind count tables g = systems (guard (startLaid count tables g) 10 (start base kind (tablesView count tables) (givenView g)))
+started kind count tables g = systems (guard (startLaid count tables g) 10 (start base (record { kind = kind }) (tablesView count tables) (givenView g)))
 
 -- ---- its parts
 -- Every reason for 10.
 unfoldable pub startFine : ℕ → ℕ → List Table → Given → Bool
-startFine kind count tables g = startLaid count tables g && startable kind (tablesView count tables) (givenView g)
+startFine kind count tables g = startLaid count tables g && startable (record { kind = kind }) (tablesView count tables) (givenView g)
 
 -- The network of a kind with nothing on it.
 abbrev pub emptyNet : Kind → Net

@@ -17,6 +17,7 @@ use Rattle.types.specs.declared.Action.{Action}
 use Rattle.answers.specs.declared.Answer.the-variants.{Done}
 use Rattle.answers.specs.Answers.{answerOf}
 use Rattle.rules.specs.Outcome.{Outcome, done, refused, guard, base}
+use Rattle.rules.specs.System.{systems}
 use Rattle.rules.specs.System as rules
 use Rattle.rules.specs.Run.{step}
 use Rattle.rules.specs.WellFormed.{wellFormed}
@@ -29,7 +30,7 @@ use Rattle.link_inner.specs.Views.{rulesOf}
 use Rattle.sys_actor.specs.declared.Actor.{Actor}
 use Rattle.sys_actor.specs.Views.{actorAs, zeroActor, actorLaid}
 use Rattle.answers.specs.Answers.{isDone}
-use Rattle.parts.specs.Parts.{Part, partOf, putBack, target, seat, actPart, systems, mapped}
+use Rattle.parts.specs.Parts.{Part, partOf, putBack, target, seat, actPart, mapped}
 use Rattle.parts.proofs.Outcomes.{guarded}
 use Rattle.parts.proofs.Laws.{set-get}
 use Rattle.parts.proofs.Acts.{act-parts}

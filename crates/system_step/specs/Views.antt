@@ -6,9 +6,8 @@ use Rattle.lists.specs.Lists.{choose}
 use Rattle.types.specs.declared.Action.{Action}
 use Rattle.answers.specs.declared.Answer.the-variants.{Done}
 use Rattle.rules.specs.Outcome.{Outcome, guard, base}
-use Rattle.rules.specs.System.{Sys}
+use Rattle.rules.specs.System.{Sys, systems}
 use Rattle.rules.specs.Run.{step}
-use Rattle.parts.specs.Parts.{systems}
 use Rattle.answers.specs.Answers.{isDone}
 use Rattle.steps.specs.declared.Touched.{Touched}
 use Rattle.system.specs.declared.System.{System}

@@ -12,9 +12,8 @@ ghost use mathlib.Core.Path.{_≡_};
 ghost use Prim.Native.Nat.{_<_};
 ghost use Rattle.types.specs.Capacities.{mostActors};
 ghost use Rattle.rules.specs.Outcome.{base};
-ghost use Rattle.rules.specs.System.{act};
+ghost use Rattle.rules.specs.System.{systems, act};
 ghost use Rattle.system.specs.Views.{sysView};
-ghost use Rattle.parts.specs.Parts.{systems};
 ghost use Rattle.system_parts.specs.Views.{Ready, answeredOf};
 ghost use Rattle.system_step.specs.Views.{putTouched, stepOf};
 

@@ -8,8 +8,8 @@ use Rattle.types.specs.declared.Action.{Action}
 use Rattle.layout.specs.Read.{one}
 use Rattle.rules.specs.Outcome.{base}
 use Rattle.rules.specs.Script.{actionForm}
+use Rattle.rules.specs.System.{systems}
 use Rattle.rules.specs.System as rules
-use Rattle.parts.specs.Parts.{systems}
 use Rattle.script_records.specs.declared.ActionRead.the-variants.{Act, End}
 use Rattle.script_records.specs.Views.{actionRead}
 use Rattle.replay_lines.proofs.Laws.{length-left}

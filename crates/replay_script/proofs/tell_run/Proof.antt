@@ -5,9 +5,9 @@ use mathlib.Core.Path.{_≡_, sym, ap, _∙_}
 use lib.ListN.{drop}
 use lib.Dec.{lit≤}
 use borrow.Author.Tests.{not-true, not-false}
+use Rattle.rules.specs.System.{systems}
 use Rattle.rules.specs.Start.{blank}
 use Rattle.rules.specs.Script.{versions, formatOf, actionsFrom}
-use Rattle.parts.specs.Parts.{systems}
 use Rattle.script_check.proofs.Whole.{Parts, parts-of}
 use Rattle.system.specs.Views.{systemOf}
 use Rattle.system_parts.specs.Views.{answeredOf}

@@ -1,6 +1,7 @@
 -- `blank` meets its contract: it pads nothing.
 -- Assumes nothing.
 use Rattle.lists.specs.Lists.{pad}
+use Rattle.rules.specs.Network.{kindOf}
 use Rattle.rules.specs.Start.{boot, blank}
 use borrow.Author.Needs.{needs}
 use Rattle.system.proofs.blank.Statement.{statement}
@@ -16,7 +17,7 @@ zero-table-requires : tie.Need-zero-table-requires
 zero-table-requires c κs = search needs
 
 returns : tie.Need-returns
-unfolding pad boot blank
+unfolding pad kindOf boot blank
 returns c = rw (c .before .before .blank .ensures, c .before .zero-actor .ensures, c .zero-table .ensures)
 
 pub blank-spec : {M : Type 1} → statement M
