@@ -12,7 +12,7 @@ ghost use lib.ListN.{getD};
 ghost use Rattle.rules.specs.Network.{single};
 ghost use Rattle.types.specs.Capacities.{mostCopies};
 ghost use Rattle.types.specs.Order.{isLess, isEqual};
-ghost use Rattle.net_cells.specs.Cells.{tags, payloads, headWith, messageOf, entryOf, cmpCell, Packed};
+ghost use Rattle.net_cells.specs.Cells.{tags, payloads, headWith, messageOf, entryOf, zeroEntry, cmpCell, Packed};
 
 // The tags that a head has room for: 0 is a Deliver, 1 an Ack.
 pub const TAGS: u64 = 4;
@@ -72,6 +72,19 @@ pub fn entry_of(c: [u64; 4]) -> Entry
             msg: m,
         },
         count: c[3] as u16,
+    }
+}
+
+pub fn zero_entry() -> Entry
+    ensures { λ r. ⌜ r ≡ zeroEntry ⌝ }
+{
+    Entry {
+        envelope: Envelope {
+            src: Id(0),
+            dst: Id(0),
+            msg: Message::Deliver(Number(0), Payload(0)),
+        },
+        count: 0,
     }
 }
 

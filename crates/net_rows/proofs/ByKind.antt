@@ -25,10 +25,10 @@ use Rattle.rules.specs.Outcome.{Outcome, done, refused, guard, Room}
 use Rattle.rules.specs.Network.{Net, single, again, put, sending, send, isDuplicating, remove, dropping, delivering, present, onDeliver, onDrop}
 use Rattle.rules.specs.WellFormed.{inOrder}
 use Rattle.rules.proofs.Network.{put-ordered, put-new, put-again, remove-last, remove-one, remove-absent}
-use Rattle.net_entries.specs.Search.{zeroEntry, stands}
-use Rattle.net_entries.proofs.Tests.{any-yes, any-no}
-use Rattle.net_entries.proofs.Lookup.{There, Missing, before}
-use Rattle.net_cells.specs.Cells.{cellOf, entryOf, cmpCell, flowOf, Packed}
+use Rattle.net_rows.specs.Search.{stands}
+use Rattle.net_slots.proofs.Tests.{any-yes, any-no}
+use Rattle.net_rows.proofs.Lookup.{There, Missing, before}
+use Rattle.net_cells.specs.Cells.{zeroEntry, cellOf, entryOf, cmpCell, flowOf, Packed}
 use Rattle.net_cells.proofs.Laws.{Narrow, cell-order, cell-flows, narrow, narrow-all, lead-cells, chain-cells}
 use Rattle.net_slots.specs.declared.Look.the-variants.{Before, UpToFlow}
 use Rattle.net_slots.specs.Search.{passesOf, Once}

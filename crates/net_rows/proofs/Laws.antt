@@ -27,9 +27,8 @@ use Rattle.types.specs.Capacities.{mostCopies}
 use Rattle.types.specs.Order.{tagOf, numberOf, payloadOf}
 use Rattle.rules.specs.Outcome.{Outcome, done, refused, guard, Room}
 use Rattle.rules.specs.Network.{Net, single, again, lowered, fits, len}
-use Rattle.net_entries.specs.Search.{zeroEntry}
-use Rattle.net_entries.proofs.Tests.{all-ins, all-set}
-use Rattle.net_cells.specs.Cells.{cellOf, entryOf}
+use Rattle.net_cells.specs.Cells.{zeroEntry, cellOf, entryOf}
+use Rattle.net_slots.proofs.Tests.{all-ins, all-set}
 use Rattle.net_cells.proofs.Laws.{Narrow, back-all, narrow, narrow-all}
 use Rattle.net_rows.specs.declared.Sent.{Sent}
 use Rattle.net_rows.specs.Views.{entryList, netOf, roomOf, mostRoom, NetLaid, Holds, Left, Changed}

@@ -35,7 +35,7 @@ use Rattle.rules.specs.System.{Actor, withTimers, withStorage, withLink}
 use Rattle.parts.specs.Parts.{Part, netIn, actorIn, runPart, finishPart, deliverPart}
 use Rattle.parts.proofs.Outcomes.{bind-same}
 use Rattle.link_timers.specs.Views.{listed}
-use Rattle.net_entries.proofs.Tests.{any-yes, any-no}
+use Rattle.net_slots.proofs.Tests.{any-yes, any-no}
 use Rattle.net_rows.specs.declared.Sent.{Sent}
 use Rattle.net_rows.specs.Views.{entryList, netOf, roomOf, NetReady}
 use Rattle.net_rows.proofs.Laws.{used-is}

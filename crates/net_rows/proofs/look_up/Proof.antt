@@ -2,7 +2,7 @@ use native.Mathlib.Omega.{arith}
 use mathlib.Core.Path.{_∙_}
 use Rattle.net_rows.proofs.Laws.{used-is}
 use Rattle.net_rows.proofs.ByKind.{once-before, before-is, found-is}
-use Rattle.net_entries.proofs.Lookup.{is-there, is-missing}
+use Rattle.net_rows.proofs.Lookup.{is-there, is-missing}
 use Rattle.net_rows.specs.Views.{entryList}
 use Rattle.net_rows.specs.Parts.{envelopeIn}
 use borrow.Author.Needs.{needs}

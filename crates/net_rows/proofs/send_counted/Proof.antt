@@ -1,7 +1,7 @@
 use native.Mathlib.Omega.{arith}
 use mathlib.Core.Path.{sym, _∙_}
 use Rattle.net_rows.proofs.Laws.{used-is}
-use Rattle.net_entries.proofs.Lookup.{before, told-at, told-free}
+use Rattle.net_rows.proofs.Lookup.{before, told-at, told-free}
 use Rattle.lists.proofs.Places.{lead-le}
 use Rattle.types.specs.declared.Kind.the-variants.{UnorderedNonDuplicating}
 use Rattle.net_rows.specs.Views.{entryList}
