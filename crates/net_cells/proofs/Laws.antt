@@ -6,7 +6,7 @@ use native.Mathlib.Omega.{arith}
 use mathlib.Core.Path.{_≡_, refl, sym, ap, ap₂, _∙_, subst}
 use mathlib.Core.Bool.{Bool, true, false, not}
 use mathlib.Core.List.{List, [], _∷_, map}
-use lib.ListN.{length, getD, set}
+use lib.ListN.{getD, set}
 use lib.Dec.{ltb, leb, eqb}
 use borrow.Author.Tests.{lt-ltb, le-ltb, ltb-true, ltb-false, le-leb, lt-leb, eq-eqb, ne-eqb}
 use Rattle.lists.specs.Lists.{chain, lead}
@@ -20,7 +20,7 @@ use Rattle.rules.specs.Network.{single}
 use Rattle.types.specs.declared.Entry.{Entry}
 use Rattle.types.specs.declared.Order.{Order}
 use Rattle.types.specs.declared.Order.the-variants.{Less, Equal, Greater}
-use Rattle.types.specs.Order.{cmpN, pickO, andThen, tagOf, numberOf, payloadOf, cmpEnvelope, cmpFlow, isLess, isEqual, same}
+use Rattle.types.specs.Order.{cmpN, pickO, andThen, tagOf, numberOf, payloadOf, cmpEnvelope, cmpFlow, isLess, isEqual}
 use Rattle.types.proofs.Laws.{andThen-assoc, andThen-equal}
 use Rattle.net_cells.specs.Cells.{tags, payloads, headWith, cellOf, messageOf, entryOf, cmpCell, flowOf, Packed}
 

@@ -3,17 +3,16 @@
 use Prim.Native.Nat.{ℕ, _≤_, _<_}
 use native.Mathlib.Omega.{arith}
 use native.Mathlib.Decide.{decLe}
-use mathlib.Core.Path.{_≡_, refl, sym, ap, ap₂, _∙_, subst}
-use mathlib.Core.Bool.{Bool, true, false, not, _||_, true≢false, false≢true}
-use mathlib.Core.List.{List, [], _∷_, map}
+use mathlib.Core.Path.{_≡_, refl, sym, ap, _∙_, subst}
+use mathlib.Core.Bool.{Bool, true, false, not, _||_}
+use mathlib.Core.List.{List, [], _∷_}
 use lib.ListN.{length, take, getD, set}
 use lib.Seq.{set-getD}
 use lib.Dec.{leb}
 use borrow.Author.Tests.{le-leb, lt-leb}
-use Rattle.lists.specs.Lists.{choose, any, chain, lead, ins, del}
+use Rattle.lists.specs.Lists.{choose, chain, lead, ins}
 use Rattle.types.specs.declared.Envelope.{Envelope}
 use Rattle.types.specs.declared.Entry.{Entry}
-use Rattle.types.specs.declared.Order.{Order}
 use Rattle.types.specs.declared.Kind.{Kind}
 use Rattle.types.specs.declared.Kind.the-variants.{Ordered, UnorderedDuplicating, UnorderedNonDuplicating}
 use Rattle.types.specs.declared.LastMessage.{LastMessage}
@@ -21,14 +20,14 @@ use Rattle.answers.specs.declared.Answer.the-variants.{Done, Absent}
 use Rattle.answers.specs.Answers.{answerOf}
 use Rattle.types.specs.Order.{lex, cmpEnvelope, cmpFlow, isLess, isEqual, same}
 use Rattle.types.proofs.Laws.{andThen-equal, lex-trans, less-is, same-is}
-use Rattle.rules.specs.Outcome.{Outcome, done, refused, guard, Room}
-use Rattle.rules.specs.Network.{Net, single, again, put, sending, send, isDuplicating, remove, dropping, delivering, present, onDeliver, onDrop}
+use Rattle.rules.specs.Outcome.{done, guard}
+use Rattle.rules.specs.Network.{single, again, put, sending, send, isDuplicating, remove, dropping, delivering, present, onDeliver, onDrop}
 use Rattle.rules.specs.WellFormed.{inOrder}
 use Rattle.rules.proofs.Network.{put-ordered, put-new, put-again, remove-last, remove-one, remove-absent}
 use Rattle.net_rows.specs.Search.{stands}
 use Rattle.net_slots.proofs.Tests.{any-yes, any-no}
 use Rattle.net_rows.proofs.Lookup.{There, Missing, before}
-use Rattle.net_cells.specs.Cells.{zeroEntry, cellOf, entryOf, cmpCell, flowOf, Packed}
+use Rattle.net_cells.specs.Cells.{zeroEntry, cellOf, cmpCell, flowOf, Packed}
 use Rattle.net_cells.proofs.Laws.{Narrow, cell-order, cell-flows, narrow, narrow-all, lead-cells, chain-cells}
 use Rattle.net_slots.specs.declared.Look.the-variants.{Before, UpToFlow}
 use Rattle.net_slots.specs.Search.{passesOf, Once}

@@ -1,37 +1,33 @@
 -- Cells that hold entries: what a change of the cells is to the entries.
 -- Assumes nothing.
-use Prim.Native.Nat.{ℕ, zero, suc, _+_, _*_, _-_, _≤_, _<_, suc-le-suc, zero-le}
+use Prim.Native.Nat.{ℕ, zero, suc, _+_, _*_, _-_, _≤_, _<_}
 use native.Mathlib.Nat.{not-suc-le-zero, le-of-suc-le-suc}
 use native.Mathlib.Omega.{arith}
-use native.Mathlib.Decide.{decLe, decLt}
 use mathlib.Core.Path.{_≡_, refl, sym, ap, ap₂, _∙_, subst}
-use mathlib.Core.Bool.{Bool, true, false, not, _&&_, _||_, true≢false}
-use mathlib.Core.List.{List, [], _∷_, _++_, map}
-use lib.ListN.{length, take, drop, getD, set, length-set, length-map}
-use lib.Seq.{getD-take, length-take-le, take-set-lt, set-getD}
+use mathlib.Core.Bool.{Bool, true, false}
+use mathlib.Core.List.{List, [], _∷_, map}
+use lib.ListN.{length, take, getD, set, length-set, length-map}
+use lib.Seq.{getD-take, length-take-le, take-set-lt}
 use lib.Dec.{leb}
 use borrow.Author.Tests.{le-leb, lt-leb, leb-true}
-use Rattle.lists.specs.Lists.{choose, any, all, chain, lead, ins, del}
-use Rattle.lists.proofs.Places.{length-ins, length-del, lead-le}
+use Rattle.lists.specs.Lists.{choose, all, lead, ins, del}
+use Rattle.lists.proofs.Places.{length-ins, lead-le}
 use Rattle.lists.proofs.Members.{and-both}
 use Rattle.lists.proofs.Sorted.{All}
-use Rattle.types.specs.declared.Envelope.{Envelope}
 use Rattle.types.specs.declared.Entry.{Entry}
 use Rattle.types.specs.declared.Kind.{Kind}
-use Rattle.types.specs.declared.Kind.the-variants.{Ordered, UnorderedDuplicating, UnorderedNonDuplicating}
+use Rattle.types.specs.declared.Kind.the-variants.{UnorderedNonDuplicating}
 use Rattle.types.specs.declared.LastMessage.{LastMessage}
 use Rattle.answers.specs.declared.Answer.{Answer}
 use Rattle.answers.specs.declared.Answer.the-variants.{Done, NetworkFull}
 use Rattle.answers.specs.Answers.{answerOf}
 use Rattle.types.specs.Capacities.{mostCopies}
-use Rattle.types.specs.Order.{tagOf, numberOf, payloadOf}
 use Rattle.rules.specs.Outcome.{Outcome, done, refused, guard, Room}
 use Rattle.rules.specs.Network.{Net, single, again, lowered, fits, len}
 use Rattle.net_cells.specs.Cells.{zeroEntry, cellOf, entryOf}
 use Rattle.net_slots.proofs.Tests.{all-ins, all-set}
 use Rattle.net_cells.proofs.Laws.{Narrow, back-all, narrow, narrow-all}
-use Rattle.net_rows.specs.declared.Sent.{Sent}
-use Rattle.net_rows.specs.Views.{entryList, netOf, roomOf, mostRoom, NetLaid, Holds, Left, Changed}
+use Rattle.net_rows.specs.Views.{entryList, roomOf, mostRoom, NetLaid, Holds, Left, Changed}
 use Rattle.net_rows.specs.Parts.{envelopeIn, Alone, netWith, fitting, takenAt}
 
 -- ---- maps and places

@@ -21,7 +21,6 @@ ghost use Rattle.types.specs.declared.LastMessage.{LastMessage};
 ghost use Rattle.types.specs.Order.{same};
 ghost use Rattle.rules.specs.Outcome.{done};
 ghost use Rattle.rules.specs.Network.{single, again, send, onDeliver, onDrop};
-ghost use Rattle.rules.specs.WellFormed.{inOrder};
 ghost use Rattle.net_cells.specs.Cells.{zeroEntry};
 ghost use Rattle.net_rows.specs.Search.{stands, lookUp};
 ghost use Rattle.net_rows.specs.Views.{entryList, netOf, roomOf, NetLaid, NetReady, Changed};
