@@ -1,12 +1,12 @@
 -- Laws of cells: they are told apart and ordered as their entries are, and each is read back.
 -- Assumes nothing.
 use Prim.Native.Nat.{ℕ, zero, suc, _+_, _*_, _/_, _%_, _≤_, _<_}
-use native.Mathlib.Nat.{mod-lt, zero-lt-suc}
+use native.Mathlib.Nat.{mod-lt, mod-eq-of-lt, zero-lt-suc}
 use native.Mathlib.Omega.{arith}
 use mathlib.Core.Path.{_≡_, refl, sym, ap, ap₂, _∙_, subst}
 use mathlib.Core.Bool.{Bool, true, false, not}
 use mathlib.Core.List.{List, [], _∷_, map}
-use lib.ListN.{length, getD}
+use lib.ListN.{getD, set}
 use lib.Dec.{ltb, leb, eqb}
 use borrow.Author.Tests.{lt-ltb, le-ltb, ltb-true, ltb-false, le-leb, lt-leb, eq-eqb, ne-eqb}
 use Rattle.lists.specs.Lists.{chain, lead}
@@ -20,9 +20,9 @@ use Rattle.rules.specs.Network.{single}
 use Rattle.types.specs.declared.Entry.{Entry}
 use Rattle.types.specs.declared.Order.{Order}
 use Rattle.types.specs.declared.Order.the-variants.{Less, Equal, Greater}
-use Rattle.types.specs.Order.{cmpN, pickO, andThen, tagOf, numberOf, payloadOf, cmpEnvelope, cmpFlow, isLess, isEqual, same}
+use Rattle.types.specs.Order.{cmpN, pickO, andThen, tagOf, numberOf, payloadOf, cmpEnvelope, cmpFlow, isLess, isEqual}
 use Rattle.types.proofs.Laws.{andThen-assoc, andThen-equal}
-use Rattle.net_cells.specs.Cells.{tags, headWith, cellOf, messageOf, entryOf, cmpCell, flowOf}
+use Rattle.net_cells.specs.Cells.{tags, payloads, headWith, cellOf, messageOf, entryOf, cmpCell, flowOf, Packed}
 
 -- ---- two numbers
 abbrev Says : ℕ → ℕ → Order → Type 0
@@ -68,15 +68,20 @@ tag-few : (m : Message) → tagOf m < tags
 tag-few (Deliver n p) = omega arith
 tag-few (Ack n) = omega arith
 
--- The destination is a byte.
+-- Source, destination and payload are in the range of their types.
+pub record Thin (e : Envelope) : Type 0 where
+  pub src : e .src .0 < 256
+  pub dst : e .dst .0 < 256
+  pub payload : payloadOf (e .msg) < payloads
+
 abbrev pub Narrow : Entry → Type 0
-Narrow x = x .envelope .dst .0 < 256
+Narrow x = Thin (x .envelope)
 
 pub cell-order : (x y : Entry) → Narrow x → Narrow y → cmpCell (cellOf x) (cellOf y) ≡ cmpEnvelope (x .envelope) (y .envelope)
 unfolding cmpCell cellOf cmpEnvelope
 cell-order x y h k =
     ap (λ (o : Order). andThen o (andThen (cmpN (numberOf (x .envelope .msg)) (numberOf (y .envelope .msg))) (cmpN (payloadOf (x .envelope .msg)) (payloadOf (y .envelope .msg)))))
-    (head-order (x .envelope .src .0) (x .envelope .dst .0) (tagOf (x .envelope .msg)) (y .envelope .src .0) (y .envelope .dst .0) (tagOf (y .envelope .msg)) h (tag-few (x .envelope .msg)) k (tag-few (y .envelope .msg)))
+    (head-order (x .envelope .src .0) (x .envelope .dst .0) (tagOf (x .envelope .msg)) (y .envelope .src .0) (y .envelope .dst .0) (tagOf (y .envelope .msg)) (h .dst) (tag-few (x .envelope .msg)) (k .dst) (tag-few (y .envelope .msg)))
     ∙ simp (andThen-assoc, andThen-equal)
 
 pub cell-flow : (x : Entry) → flowOf (cellOf x) ≡ x .envelope .src .0 * 256 + x .envelope .dst .0
@@ -96,7 +101,7 @@ flow-order s d s' d' h k = go (cmpN s' s) refl (cmpN d' d) refl
 -- x is of a flow up to that of y
 pub cell-flows : (x y : Entry) → Narrow x → Narrow y → leb (flowOf (cellOf x)) (flowOf (cellOf y)) ≡ not (isLess (cmpFlow (y .envelope) (x .envelope)))
 unfolding cmpFlow
-cell-flows x y h k = ap₂ leb (cell-flow x) (cell-flow y) ∙ flow-order (x .envelope .src .0) (x .envelope .dst .0) (y .envelope .src .0) (y .envelope .dst .0) h k
+cell-flows x y h k = ap₂ leb (cell-flow x) (cell-flow y) ∙ flow-order (x .envelope .src .0) (x .envelope .dst .0) (y .envelope .src .0) (y .envelope .dst .0) (h .dst) (k .dst)
 
 -- ---- back
 message-back : (m : Message) → messageOf (tagOf m) (numberOf m) (payloadOf m) ≡ m
@@ -109,15 +114,25 @@ unfolding entryOf cellOf
 back x h =
     let t = tag-few (x .envelope .msg) in
     let h0 = headWith (x .envelope .src .0) (x .envelope .dst .0) (tagOf (x .envelope .msg)) in
-    let a : h0 / (256 * tags) ≡ x .envelope .src .0 = omega arith in
-    let b : h0 / tags % 256 ≡ x .envelope .dst .0 = omega arith in
+    let a : h0 / (256 * tags) % 256 ≡ x .envelope .src .0 = omega (arith, h .src, h .dst) in
+    let b : h0 / tags % 256 ≡ x .envelope .dst .0 = omega (arith, h .dst) in
     let c : h0 % tags ≡ tagOf (x .envelope .msg) = omega arith in
-    let m = ap (λ (k : ℕ). messageOf k (numberOf (x .envelope .msg)) (payloadOf (x .envelope .msg))) c ∙ message-back (x .envelope .msg) in
+    let m =
+    ap₂ (λ (k p : ℕ). messageOf k (numberOf (x .envelope .msg)) p) c (mod-eq-of-lt (h .payload)) ∙ message-back (x .envelope .msg) in
     λ i. record { envelope = record { src = record { 0 = a i }; dst = record { 0 = b i }; msg = m i }; count = x .count }
+
+payload-in : (t n p : ℕ) → payloadOf (messageOf t n (p % payloads)) < payloads
+unfolding messageOf
+payload-in zero n p = mod-lt p (omega arith)
+payload-in (suc t) n p = omega arith
 
 pub narrow : (c : List ℕ) → Narrow (entryOf c)
 unfolding entryOf
-narrow c = mod-lt (getD c 0 0 / tags) (zero-lt-suc 255)
+narrow c = record {
+  src = mod-lt (getD c 0 0 / (256 * tags)) (zero-lt-suc 255);
+  dst = mod-lt (getD c 0 0 / tags) (zero-lt-suc 255);
+  payload = payload-in (getD c 0 0 % tags) (getD c 1 0) (getD c 2 0);
+}
 
 pub narrow-all : (cs : List (List ℕ)) → All Narrow (map entryOf cs)
 narrow-all [] = tt
@@ -197,11 +212,34 @@ module _ (x k : List ℕ) where
       go Equal e = absurd (n (by (getD x 0 0) (getD k 0 0) Equal e))
       go Greater e = refl
 
--- ---- an envelope once
-pub made-message : (e : Envelope) (n : Number) (p : Payload) (h : ℕ) → e .msg ≡ Deliver n p → h ≡ headWith (e .src .0) (e .dst .0) 0 → _≡_ {A = List ℕ} (h ∷ n .0 ∷ p .0 ∷ 1 ∷ []) (cellOf (single e))
-unfolding cellOf single
-made-message e n p h m q = rw (m, q)
+-- ---- an envelope once, and an entry with its count
+pub packed : (x : Entry) (c : List ℕ) → Narrow x → c ≡ cellOf x → Packed x c
+packed x c h e = record { cell = e; back = ap entryOf e ∙ back x h }
 
-pub made-ack : (e : Envelope) (n : Number) (h : ℕ) → e .msg ≡ Ack n → h ≡ headWith (e .src .0) (e .dst .0) 1 → _≡_ {A = List ℕ} (h ∷ n .0 ∷ 0 ∷ 1 ∷ []) (cellOf (single e))
+pub made-message
+    : (e : Envelope) (n : Number) (p : Payload) (h : ℕ) → e .msg ≡ Deliver n p → h ≡ headWith (e .src .0) (e .dst .0) 0
+    → e .src .0 < 256 → e .dst .0 < 256 → p .0 < payloads → Packed (single e) (h ∷ n .0 ∷ p .0 ∷ 1 ∷ [])
 unfolding cellOf single
-made-ack e n h m q = rw (m, q)
+made-message e n p h m q s d l = packed (single e) _ (record { src = s; dst = d; payload = rw m l }) (rw (m, q))
+
+pub made-ack
+    : (e : Envelope) (n : Number) (h : ℕ) → e .msg ≡ Ack n → h ≡ headWith (e .src .0) (e .dst .0) 1
+    → e .src .0 < 256 → e .dst .0 < 256 → Packed (single e) (h ∷ n .0 ∷ 0 ∷ 1 ∷ [])
+unfolding cellOf single
+made-ack e n h m q s d = packed (single e) _ (record { src = s; dst = d; payload = rw m (omega arith) }) (rw (m, q))
+
+pub with-count : (x : Entry) (w : List ℕ) → Packed (single (x .envelope)) w → Packed x (set w 3 (x .count))
+unfolding cellOf entryOf single
+with-count x w p =
+    let q : entryOf (cellOf (single (x .envelope))) .envelope ≡ x .envelope = ap (λ (y : Entry). y .envelope) (ap entryOf (sym (p .cell)) ∙ p .back) in
+    record { cell = rw (p .cell); back = ap (λ (v : List ℕ). entryOf (set v 3 (x .count))) (p .cell) ∙ (λ i. record { envelope = q i; count = x .count }) }
+
+-- ---- back: a Deliver by its tag, any other message an Ack
+pub is-deliver : (t n p : ℕ) → t ≡ 0 → _≡_ {A = Message} (Deliver (record { 0 = n }) (record { 0 = p })) (messageOf t n p)
+unfolding messageOf
+is-deliver t n p e = rw e
+
+pub is-ack : (t n p : ℕ) → (t ≡ 0 → ⊥) → _≡_ {A = Message} (Ack (record { 0 = n })) (messageOf t n p)
+unfolding messageOf
+is-ack zero n p e = absurd (e refl)
+is-ack (suc t) n p e = refl

@@ -3,7 +3,7 @@ use net_compare::before;
 use net_compare::flow_before;
 use net_compare::same_envelope;
 use net_network::Network;
-use net_network::zero_entry;
+use net_cells::zero_entry;
 use types::Entry;
 use types::Envelope;
 use types::Kind;

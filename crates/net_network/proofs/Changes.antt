@@ -1,151 +1,174 @@
--- A network that is laid out: its array is the list of its entries with zeros behind, so a change of the array is that change of the list.
+-- A network that is laid out is the struct of its view. Its cells are a network in place with the same view, and what a change leaves of the cells is
+-- laid back as the rules say.
 -- Assumes nothing.
-use Prim.Native.Nat.{ℕ, suc, _+_, _-_, _≤_, _<_}
+use Prim.Native.Nat.{ℕ, _≤_}
 use native.Mathlib.Omega.{arith}
-use mathlib.Core.Path.{_≡_, sym, ap, _∙_}
-use mathlib.Core.Bool.{true, false}
-use mathlib.Core.List.{List}
-use lib.ListN.{length, getD, set, length-set}
-use lib.Dec.{leb}
-use borrow.Author.Tests.{le-leb, lt-leb}
-use Rattle.lists.specs.Lists.{choose, all, ins, del, pad, grow, shrink}
-use Rattle.lists.proofs.Places.{length-ins, length-del, grow-pad, set-pad, laid-length, laid-get, laid-shrink}
+use mathlib.Core.Path.{_≡_, refl, sym, ap, ap₂, _∙_, subst}
+use mathlib.Core.Bool.{Bool, true, false, _||_, true≢false}
+use mathlib.Core.List.{List, map}
+use lib.ListN.{length, take, length-map}
+use lib.Seq.{length-take-le}
+use Rattle.lists.specs.Lists.{choose, pad}
+use Rattle.lists.proofs.Places.{laid-length}
 use Rattle.types.specs.declared.Envelope.{Envelope}
-use Rattle.types.specs.declared.Entry.{Entry}
 use Rattle.types.specs.declared.Kind.{Kind}
 use Rattle.types.specs.declared.Kind.the-variants.{Ordered, UnorderedDuplicating, UnorderedNonDuplicating}
-use Rattle.types.specs.Capacities.{mostEntries}
-use Rattle.answers.specs.declared.Answer.the-variants.{NetworkFull}
+use Rattle.types.specs.declared.LastMessage.{LastMessage}
+use Rattle.types.specs.declared.LastMessage.the-variants.{Delivered}
+use Rattle.types.specs.Capacities.{mostEntries, mostCopies}
 use Rattle.answers.specs.Answers.{answerOf}
-use Rattle.rules.specs.Outcome.{done, guard, base}
-use Rattle.rules.specs.Network.{single, again, lowered, fits}
-use Rattle.net_entries.proofs.Tests.{all-ins, all-set}
+use Rattle.rules.specs.Outcome.{Outcome, done, guard, Room, base}
+use Rattle.rules.specs.Network.{Net, sending, send, isDuplicating, dropping, delivering, present, onDeliver, onDrop, len}
+use Rattle.net_cells.specs.Cells.{cellOf, entryOf}
+use Rattle.net_layout.specs.Layout.{LaidOut}
+use Rattle.net_layout.proofs.Laws.{out-room, out-used, out-entries}
+use Rattle.net_rows.specs.declared.Sent.{Sent}
+use Rattle.net_rows.specs.Views.{netOf, roomOf, Changed}
+use Rattle.net_rows.specs.Views as rows
+use Rattle.net_rows.proofs.Ready as kept
 use Rattle.net_network.specs.declared.Network.{Network}
-use Rattle.net_network.specs.Views.{zeroEntry, entryList, netView, networkOf, NetLaid, countFits, NetReady, back, sentOf}
-use Rattle.net_network.specs.Parts.{copiesOf, changed, entered, fitting, takenAt}
-
--- A send of an equal entry, as the code counts it.
-pub again-is : (k : Kind) (x : Entry) → again k x ≡ record { envelope = x .envelope; count = x .count + copiesOf k }
-unfolding again
-again-is Ordered x = let z : x .count ≡ x .count + 0 = omega arith in λ i. record { envelope = x .envelope; count = z i }
-again-is UnorderedDuplicating x = let z : x .count ≡ x .count + 0 = omega arith in λ i. record { envelope = x .envelope; count = z i }
-again-is UnorderedNonDuplicating x = let z : suc (x .count) ≡ x .count + 1 = omega arith in λ i. record { envelope = x .envelope; count = z i }
-
-pub copies-few : (k : Kind) → copiesOf k ≤ 1
-copies-few Ordered = omega arith
-copies-few UnorderedDuplicating = omega arith
-copies-few UnorderedNonDuplicating = omega arith
-
--- ---- what fits
-module _ (n : Network) (l : List Entry) where
-  refuses : fits (base .room) (entered n l) ≡ false → back NetworkFull n ≡ sentOf n (fitting n l)
-  unfolding guard answerOf
-  refuses h = rw h
-
-  admits : fits (base .room) (entered n l) ≡ true → sentOf n (done (entered n l)) ≡ sentOf n (fitting n l)
-  unfolding guard
-  admits h = rw h
+use Rattle.net_network.specs.Views.{zeroEntry, entryList, netView, networkOf, NetLaid, NetReady, back, sentOf}
+use Rattle.net_network.specs.Parts.{Readable, readBack, lastAfter}
 
 module _ (n : Network) (laid : NetLaid n) where
   pub used-is : length (entryList n) ≡ n .used
   used-is = laid-length mostEntries zeroEntry (n .entries) (n .used) (laid .fit) (laid .rest)
 
-  pub got : (at : ℕ) → getD (n .entries) at zeroEntry ≡ getD (entryList n) at zeroEntry
-  got = laid-get mostEntries zeroEntry (n .entries) (n .used) (laid .fit) (laid .rest)
-
   pub held : n ≡ networkOf (netView n)
   held = let v = used-is in λ i. record { kind = n .kind; entries = laid .rest i; used = sym v i; last = n .last }
 
-  -- es and u are the array and the count that the code has.
-  with-list : (es : List Entry) (u : ℕ) (l : List Entry) → es ≡ pad mostEntries zeroEntry l → u ≡ length l → changed n es u ≡ sentOf n (done (entered n l))
-  unfolding answerOf
-  with-list es u l p q = λ i. changed n (p i) (q i)
+-- ---- the cells of a ready network
+module _ (n : Network) (ready : NetReady n) (cs : List (List ℕ)) (out : LaidOut (entryList n) cs) where
+  few : length (entryList n) ≤ mostEntries
+  few = omega (arith, used-is n (ready .laid), ready .laid .fit)
 
-  -- ---- one copy less
-  pub take-last
-      : (at : ℕ) → at < n .used → getD (n .entries) at zeroEntry .count ≤ 1 → (es : List Entry) → es ≡ shrink (n .used) at zeroEntry (n .entries)
-      → changed n es (n .used - 1) ≡ sentOf n (done (entered n (takenAt at (entryList n))))
-  unfolding takenAt choose
-  take-last at h k es p =
-      let v = used-is in
-      rw (le-leb _ 1 (rw (got at) at k))
-      (with-list es (n .used - 1) (del at (entryList n))
-      (p ∙ laid-shrink mostEntries zeroEntry (n .entries) (n .used) (laid .fit) (laid .rest) at h)
-      (omega (arith, length-del at (entryList n) (omega arith))))
+  pub cells-room : length cs ≡ mostEntries
+  cells-room = out-room out few
 
-  -- an entry is replaced by one that is made of it
-  replaced
-      : (f : Entry → Entry) (at : ℕ) → at < n .used
-      → changed n (set (n .entries) at (f (getD (n .entries) at zeroEntry))) (n .used)
-      ≡ sentOf n (done (entered n (set (entryList n) at (f (getD (entryList n) at zeroEntry)))))
-  replaced f at h =
-      let v = used-is in
-      let x = f (getD (entryList n) at zeroEntry) in
-      with-list _ (n .used) (set (entryList n) at x)
-      (ap (λ (y : Entry). set (n .entries) at (f y)) (got at)
-      ∙ ap (λ (es : List Entry). set es at x) (laid .rest)
-      ∙ set-pad mostEntries (entryList n) at x zeroEntry (omega arith))
-      (sym (length-set (entryList n) at x ∙ v))
+  pub cells-entries : rows.entryList cs (n .used) ≡ entryList n
+  cells-entries = ap (λ (u : ℕ). rows.entryList cs u) (sym (used-is n (ready .laid))) ∙ out-entries out few
 
-  pub take-more
-      : (at : ℕ) → at < n .used → 1 < getD (n .entries) at zeroEntry .count
-      → changed n (set (n .entries) at (lowered (getD (n .entries) at zeroEntry))) (n .used) ≡ sentOf n (done (entered n (takenAt at (entryList n))))
-  unfolding takenAt choose
-  take-more at h k = rw (lt-leb _ 1 (rw (got at) at k)) (replaced lowered at h)
+  cells-used : take (n .used) cs ≡ map cellOf (entryList n)
+  cells-used = ap (λ (u : ℕ). take u cs) (sym (used-is n (ready .laid))) ∙ out-used out few
 
--- ---- one copy more
-module _ (n : Network) (ready : NetReady n) where
-  pub insert-full
-      : (at : ℕ) (e : Envelope) → at ≤ n .used → mostEntries ≤ n .used
-      → back NetworkFull n ≡ sentOf n (fitting n (ins at (single e) (entryList n)))
-  unfolding fits
-  insert-full at e h k =
-      let v = used-is n (ready .laid) in
-      let w = length-ins at (single e) (entryList n) (omega arith) in
-      refuses n (ins at (single e) (entryList n)) (rw (lt-leb (length (ins at (single e) (entryList n))) mostEntries (omega arith)))
+  pub cells-net : netOf (n .kind) (n .last) cs (n .used) ≡ netView n
+  cells-net = let e = cells-entries in λ i. record { kind = n .kind; entries = e i; last = n .last }
 
-  pub insert-done
-      : (at : ℕ) (e : Envelope) → at ≤ n .used → n .used < mostEntries → (es : List Entry) → es ≡ grow (n .used) at (single e) (n .entries)
-      → changed n es (n .used + 1) ≡ sentOf n (fitting n (ins at (single e) (entryList n)))
-  unfolding fits single
-  insert-done at e h k es p =
-      let v = used-is n (ready .laid) in
-      let w = length-ins at (single e) (entryList n) (omega arith) in
-      let q : es ≡ pad mostEntries zeroEntry (ins at (single e) (entryList n)) =
-      p ∙ ap (grow (n .used) at (single e)) (ready .laid .rest)
-      ∙ ap (λ (j : ℕ). grow j at (single e) (pad mostEntries zeroEntry (entryList n))) (sym v)
-      ∙ grow-pad mostEntries (entryList n) at (single e) zeroEntry (omega arith) (omega arith) in
-      with-list n (ready .laid) es (n .used + 1) (ins at (single e) (entryList n)) q (omega arith)
-      ∙ admits n _
-      (rw (le-leb (length (ins at (single e) (entryList n))) mostEntries (omega arith)) (all-ins countFits at (single e) (entryList n) (ready .counts)))
+  pub cells-limits : roomOf cs ≡ base .room
+  cells-limits = let e = cells-room in λ i. record { entries = e i; copies = mostCopies }
 
-  -- more is what the code adds to the count
-  module _ (at : ℕ) (h : at < n .used) (more : ℕ) (m : more ≡ copiesOf (n .kind)) where
-    abbrev there : Entry
-    there = getD (n .entries) at zeroEntry
-
-    abbrev raised : Entry
-    raised = record { envelope = there .envelope; count = there .count + more }
-
-    abbrev counts-up : List Entry
-    counts-up = set (entryList n) at (again (n .kind) (getD (entryList n) at zeroEntry))
-
-    raised-is : again (n .kind) there ≡ raised
-    raised-is = rw m (again-is (n .kind) there)
-
-    -- the count alone decides whether it fits
-    fits-by : fits (base .room) (entered n counts-up) ≡ countFits raised
-    unfolding fits
-    fits-by =
-        let v = used-is n (ready .laid) in
-        let w = length-set (entryList n) at (again (n .kind) (getD (entryList n) at zeroEntry)) in
+  module _ (count : ℕ) (sum : count ≡ len (entryList n)) where
+    pub cells-ready : rows.NetReady (n .kind) cs (n .used) count
+    cells-ready =
+        let e = cells-entries in
+        let r = cells-room in
         let f = ready .laid .fit in
-        rw (le-leb (length counts-up) mostEntries (omega arith))
-        (all-set countFits at _ (entryList n) (omega arith) (ready .counts)
-        ∙ ap (λ (x : Entry). countFits x) (ap (again (n .kind)) (sym (got n (ready .laid) at)) ∙ raised-is))
+        record {
+          laid = record {
+            fit = omega arith;
+            room = omega arith;
+            cells = cells-used ∙ ap (map cellOf) (sym e);
+            counts = rw e (ready .counts);
+            sum = sum ∙ ap len (sym e);
+          };
+          order = rw e (ready .order);
+        }
 
-    pub count-full : base .room .copies < there .count + more → back NetworkFull n ≡ sentOf n (fitting n counts-up)
-    count-full k = refuses n _ (fits-by ∙ lt-leb _ _ k)
+-- ---- what cells hold, as a struct
+module _ {k : Kind} {cs : List (List ℕ)} {used n : ℕ} (ready : rows.NetReady k cs used n) (room : length cs ≡ mostEntries) where
+  pub readable : Readable cs used
+  readable = let f = ready .laid .fit in record { fit = f; few = omega arith; counts = ready .laid .counts }
 
-    pub count-done : there .count + more ≤ base .room .copies → changed n (set (n .entries) at raised) (n .used) ≡ sentOf n (fitting n counts-up)
-    count-done k = rw (← raised-is) (replaced n (ready .laid) (again (n .kind)) at h ∙ admits n _ (fits-by ∙ le-leb _ _ k))
+  pub read-is : (last : LastMessage) → readBack k cs used last ≡ networkOf (netOf k last cs used)
+  read-is last =
+      let v : used ≡ length (rows.entryList cs used) = sym (length-map (take used cs) entryOf ∙ length-take-le used cs (ready .laid .fit)) in
+      λ i. record { kind = k; entries = pad mostEntries zeroEntry (rows.entryList cs used); used = v i; last = last }
+
+-- ---- a change, laid back
+-- What a Deliver makes of kind and last message; where the duplicating kind cannot refuse, another keeps its last message.
+delivering-kind : (e : Envelope) (m : Net) → delivering e m .kind ≡ m .kind
+unfolding delivering dropping choose
+delivering-kind e m = go (isDuplicating (m .kind))
+  where
+    go : (b : Bool) → choose b (record { kind = m .kind; entries = m .entries; last = Delivered e }) (dropping e m) .kind ≡ m .kind
+    go true = refl
+    go false = refl
+
+delivering-last : (e : Envelope) (m : Net) → delivering e m .last ≡ lastAfter (m .kind) e (m .last)
+unfolding delivering dropping choose isDuplicating
+delivering-last e m = go (m .kind)
+  where
+    go : (k : Kind)
+        → choose (isDuplicating k) (record { kind = m .kind; entries = m .entries; last = Delivered e }) (dropping e m) .last ≡ lastAfter k e (m .last)
+    go Ordered = refl
+    go UnorderedDuplicating = refl
+    go UnorderedNonDuplicating = refl
+
+refused-last : (k : Kind) (e : Envelope) (last : LastMessage) (b : Bool) → (isDuplicating k || b) ≡ false → lastAfter k e last ≡ last
+unfolding isDuplicating
+refused-last Ordered e last b h = refl
+refused-last UnorderedDuplicating e last b h = absurd (true≢false h)
+refused-last UnorderedNonDuplicating e last b h = refl
+
+module _
+    (n : Network) (ready : NetReady n) (cs : List (List ℕ)) (out : LaidOut (entryList n) cs) (count : ℕ) (sum : count ≡ len (entryList n)) (s : Sent)
+    (cs' : List (List ℕ)) where
+  -- the change in place, its outcome as the rules have it, and the same laid back with a last message
+  abbrev Made : Outcome Net → Type 0
+  Made o = Changed cs (n .used) count o s cs'
+
+  abbrev here : Net
+  here = netOf (n .kind) (n .last) cs (n .used)
+
+  abbrev LaidBack : LastMessage → Outcome Net → Type 0
+  LaidBack last o = Readable cs' (s .used) × (back (s .answer) (readBack (n .kind) cs' (s .used) last) ≡ sentOf n o)
+
+  -- an outcome that is guarded by one test; where the test fails, the last message has to be the one that was
+  guarded-back
+      : (b : Bool) (j : ℕ) (x : Net) (last : LastMessage) → x .kind ≡ n .kind → x .last ≡ last → (b ≡ false → last ≡ n .last)
+      → Made (guard b j (done x)) → back (s .answer) (readBack (n .kind) cs' (s .used) last) ≡ sentOf n (guard b j (done x))
+  unfolding guard answerOf
+  guarded-back true j x last p q f c =
+      let h = c .left .1 in
+      let v : s .used ≡ length (x .entries) =
+      sym (length-map (take (s .used) cs') entryOf ∙ length-take-le (s .used) cs' (h .fit)) ∙ ap length (h .entries) in
+      ap₂ back (c .left .0) (λ i. record { kind = sym p i; entries = pad mostEntries zeroEntry (h .entries i); used = v i; last = sym q i })
+  guarded-back false j x last p q f c =
+      let z = c .left in
+      let e : pad mostEntries zeroEntry (rows.entryList cs (n .used)) ≡ n .entries =
+      ap (pad mostEntries zeroEntry) (cells-entries n ready cs out) ∙ sym (ready .laid .rest) in
+      let l = f refl in
+      ap₂ back (z .0)
+      ((λ i. readBack (n .kind) (z .3 i) (z .1 i) (l i)) ∙ (λ i. record { kind = n .kind; entries = e i; used = n .used; last = n .last }))
+
+  readable-by : {o : Outcome Net} → Made o → rows.NetReady (n .kind) cs' (s .used) (s .len) → Readable cs' (s .used)
+  readable-by c r = readable r (c .room ∙ cells-room n ready cs out)
+
+  -- the room and the view, as the struct has them
+  as-struct : (f : Room → Net → Outcome Net) → Made (f (roomOf cs) here) → Made (f (base .room) (netView n))
+  as-struct f c = subst Made (ap₂ f (cells-limits n ready cs out) (cells-net n ready cs out)) c
+
+  before : rows.NetReady (n .kind) cs (n .used) count
+  before = cells-ready n ready cs out count sum
+
+  pub send-back : (e : Envelope) → Made (send (roomOf cs) e here) → LaidBack (n .last) (send (base .room) e (netView n))
+  unfolding send sending
+  send-back e c = (
+    readable-by c (unfold send sending in kept.send-ready (n .kind) (n .last) cs (n .used) count before s cs' e c),
+    guarded-back _ 8 _ (n .last) refl refl (λ _. refl) (as-struct (λ r m. send r e m) c),
+  )
+
+  pub drop-back : (e : Envelope) → Made (onDrop e here) → LaidBack (n .last) (onDrop e (netView n))
+  unfolding onDrop dropping
+  drop-back e c = (
+    readable-by c (unfold onDrop dropping in kept.drop-ready (n .kind) (n .last) cs (n .used) count before s cs' e c),
+    guarded-back _ 3 _ (n .last) refl refl (λ _. refl) (as-struct (λ r m. onDrop e m) c),
+  )
+
+  pub deliver-back : (e : Envelope) → Made (onDeliver e here) → LaidBack (lastAfter (n .kind) e (n .last)) (onDeliver e (netView n))
+  unfolding onDeliver
+  deliver-back e c = (
+    readable-by c (unfold onDeliver in kept.deliver-ready (n .kind) (n .last) cs (n .used) count before s cs' e c),
+    guarded-back _ 3 (delivering e (netView n)) _ (delivering-kind e (netView n)) (delivering-last e (netView n))
+    (refused-last (n .kind) e (n .last) (present e (netView n))) (as-struct (λ r m. onDeliver e m) c),
+  )

@@ -3,28 +3,32 @@
 -- Assumes nothing.
 use Prim.Native.Nat.{ℕ, _-_, _≤_}
 use native.Mathlib.Omega.{arith}
-use mathlib.Core.Path.{_≡_, refl, sym, ap}
-use mathlib.Core.Logic.{⊎-elim}
+use mathlib.Core.Path.{_≡_, refl, sym, ap, _∙_}
 use mathlib.Core.Bool.{Bool, true, false}
-use mathlib.Core.List.{List·Memᴰ·not-nil, List·Memᴰ·eq-of-singleton}
-use lib.ListN.{length, take}
-use lib.Seq.{take-append-seam}
+use mathlib.Core.List.{List}
+use lib.ListN.{length, take, length-map}
+use lib.Seq.{take-append-seam, length-take-le}
 use lib.Dec.{leb}
 use borrow.Author.Tests.{eqb-true, leb-true, le-leb}
-use Rattle.lists.specs.Lists.{_∈_, choose, all, chain, pad}
-use Rattle.lists.proofs.Members.{and-both, all-in, all-make, cut-in, in-choose, cut-length}
-use Rattle.lists.proofs.Chains.{chain-is, is-chain, place-chain, cut-chain}
+use Rattle.lists.specs.Lists.{choose, all, chain, pad}
+use Rattle.lists.proofs.Members.{and-both, all-make, cut-length}
+use Rattle.lists.proofs.Chains.{is-chain}
 use Rattle.types.specs.declared.Envelope.{Envelope}
 use Rattle.types.specs.declared.Entry.{Entry}
 use Rattle.types.specs.declared.Kind.{Kind}
 use Rattle.types.specs.declared.Kind.the-variants.{Ordered, UnorderedDuplicating, UnorderedNonDuplicating}
+use Rattle.types.specs.declared.LastMessage.{LastMessage}
 use Rattle.types.specs.declared.LastMessage.the-variants.{Delivered}
 use Rattle.types.specs.Capacities.{mostEntries}
 use Rattle.types.specs.Order.{same}
 use Rattle.rules.specs.Outcome.{done, guard, base}
-use Rattle.rules.specs.Network.{Net, put, sending, fits, send, lowered, fewer, remove, dropping, delivering, isDuplicating, onDeliver, onDrop}
+use Rattle.rules.specs.Network.{Net, sending, fits, send, fewer, remove, dropping, delivering, isDuplicating, onDeliver, onDrop}
 use Rattle.rules.specs.WellFormed.{countOk, inOrder, netOk}
-use Rattle.rules.proofs.FormedNetwork.{net-is, net-places, net-cuts, fewer-length}
+use Rattle.rules.proofs.FormedNetwork.{net-is, fewer-length}
+use Rattle.net_cells.specs.Cells.{entryOf}
+use Rattle.net_rows.specs.Views.{netOf}
+use Rattle.net_rows.specs.Views as rows
+use Rattle.net_rows.proofs.Ready as place
 use Rattle.net_network.specs.declared.Network.{Network}
 use Rattle.net_network.specs.Views.{zeroEntry, netView, networkOf, NetLaid, countFits, NetReady, sentOf}
 use Rattle.net_network.proofs.Changes.{used-is}
@@ -65,42 +69,32 @@ orderly-of n r = let v = used-is n (r .laid) in let f = r .laid .fit in record {
 pub ready-of : (m : Net) → Orderly m → NetReady (networkOf m)
 ready-of m o = let s = seen m (o .few) in record { laid = laid-of m (o .few); order = rw s (o .order); counts = rw s (o .counts) }
 
--- ---- the changes
-lowered-room : (y x : Entry) → x ∈ fewer y → countFits y ≡ true → countFits x ≡ true
-unfolding fewer lowered
-lowered-room y x i h =
-    let z = leb-true (y .count) _ h in
-    ⊎-elim
-    (λ t. absurd (List·Memᴰ·not-nil (t .1)))
-    (λ t. let w : x ≡ lowered y = List·Memᴰ·eq-of-singleton (t .1) in rw w (le-leb (y .count - 1) _ (omega arith)))
-    (in-choose _ _ _ i)
-
+-- ---- the changes: order and counts are kept as they are in place
 module _ (m : Net) (o : Orderly m) (e : Envelope) where
+  inner : place.Orderly m
+  inner = record { order = o .order; counts = o .counts }
+
+  with-few : {x : Net} → length (x .entries) ≤ mostEntries → place.Orderly x → Orderly x
+  with-few f i = record { few = f; order = i .order; counts = i .counts }
+
   sends : fits (base .room) (sending e m) ≡ true → Orderly (sending e m)
-  unfolding fits sending put
-  sends h = let z = and-both _ _ h in record {
-    few = leb-true _ _ (z .0);
-    order = is-chain _ _ (place-chain (inOrder (m .kind)) _ _ _ _ (net-places (m .kind) e) (m .entries) (chain-is _ _ (o .order)));
-    counts = z .1;
-  }
+  unfolding fits
+  sends h = with-few (leb-true _ _ (and-both _ _ h .0)) (place.sends m inner e mostEntries (unfold fits in h))
+
+  fewer-left : length (dropping e m .entries) ≤ mostEntries
+  unfolding dropping remove
+  fewer-left = let z = cut-length (λ (x : Entry). same e (x .envelope)) fewer fewer-length (m .entries) in let y = o .few in omega arith
 
   drops : Orderly (dropping e m)
-  unfolding dropping remove
-  drops = record {
-    few = let z = cut-length (λ (x : Entry). same e (x .envelope)) fewer fewer-length (m .entries) in let y = o .few in omega arith;
-    order = is-chain _ _ (cut-chain (inOrder (m .kind)) _ _ (net-cuts (m .kind) _) (m .entries) (chain-is _ _ (o .order)));
-    counts =
-        let fit = all-in _ _ (o .counts) in
-        all-make _ _ (λ x i. ⊎-elim (fit x) (λ q. lowered-room (q .0) x (q .2) (fit (q .0) (q .1))) (cut-in _ _ (m .entries) x i));
-  }
+  drops = with-few fewer-left (place.drops m inner e)
 
   delivers : Orderly (delivering e m)
   unfolding delivering choose
-  delivers = go (isDuplicating (m .kind))
+  delivers = with-few (go (isDuplicating (m .kind))) (unfold delivering choose in place.delivers m inner e)
     where
-      go : (b : Bool) → Orderly (choose b (record { kind = m .kind; entries = m .entries; last = Delivered e }) (dropping e m))
-      go true = record { few = o .few; order = o .order; counts = o .counts }
-      go false = drops
+      go : (b : Bool) → length (choose b (record { kind = m .kind; entries = m .entries; last = Delivered e }) (dropping e m) .entries) ≤ mostEntries
+      go true = o .few
+      go false = fewer-left
 
 module _ (n : Network) (r : NetReady n) (e : Envelope) where
   kept : (b : Bool) (k : ℕ) (m : Net) → (b ≡ true → Orderly m) → NetReady (sentOf n (guard b k (done m)) .network)
@@ -119,3 +113,11 @@ module _ (n : Network) (r : NetReady n) (e : Envelope) where
   pub drop-ready : NetReady (sentOf n (onDrop e (netView n)) .network)
   unfolding onDrop
   drop-ready = kept _ 3 (dropping e (netView n)) (λ _. drops (netView n) (orderly-of n r) e)
+
+-- ---- the struct of a network in place
+module _ {k : Kind} {cs : List (List ℕ)} {used n : ℕ} (r : rows.NetReady k cs used n) (room : length cs ≡ mostEntries) where
+  pub read-ready : (last : LastMessage) → NetReady (networkOf (netOf k last cs used))
+  read-ready last =
+      let v : length (rows.entryList cs used) ≡ used = length-map (take used cs) entryOf ∙ length-take-le used cs (r .laid .fit) in
+      let f = r .laid .fit in
+      ready-of (netOf k last cs used) (record { few = omega arith; order = r .order; counts = r .laid .counts })

@@ -10,11 +10,10 @@ use Rattle.lists.specs.Lists.{all, chain, pad}
 use Rattle.types.specs.declared.Entry.{Entry}
 use Rattle.types.specs.Capacities.{mostEntries}
 use Rattle.answers.specs.declared.Answer.{Answer}
-use Rattle.answers.specs.Answers.{answerOf}
 use Rattle.rules.specs.Outcome.{Outcome, base, handedBack}
 use Rattle.rules.specs.Network.{Net}
 use Rattle.rules.specs.WellFormed.{inOrder}
-pub use Rattle.net_entries.specs.Search.{zeroEntry}
+pub use Rattle.net_cells.specs.Cells.{zeroEntry}
 use Rattle.net_network.specs.declared.Network.{Network}
 use Rattle.net_network.specs.declared.Sent.{Sent}
 

@@ -1,31 +1,23 @@
-// The network: an ordered array of entries in a struct with its used count, and the last message of the duplicating kind.
+// The network as a struct: an ordered array of entries with its used count, and the last message of the duplicating kind. A
+// change lays the entries out as cells, is made there, and is laid back.
 use answers::Answer;
-use net_entries::Found;
-use net_entries::Look;
+use net_cells::zero_entry;
+use net_layout::cells_of;
+use net_layout::entries_of;
 use types::Entry;
 use types::Envelope;
-use types::Id;
 use types::Kind;
 use types::LastMessage;
-use types::MOST_COPIES;
 use types::MOST_ENTRIES;
-use types::Message;
-use types::Number;
-use types::Payload;
 ghost use mathlib.Core.Path.{_≡_};
-ghost use mathlib.Core.Bool.{not};
 ghost use mathlib.Core.List.{[]};
-ghost use Prim.Native.Nat.{_≤_, _<_};
-ghost use lib.ListN.{getD, set};
-ghost use Rattle.lists.specs.Lists.{lead, ins};
-ghost use Rattle.types.specs.declared.Kind.the-variants.{Ordered};
+ghost use Prim.Native.Nat.{_≤_};
 ghost use Rattle.types.specs.declared.LastMessage.the-variants.{Nothing};
 ghost use Rattle.types.specs.Capacities.{mostEntries, mostCopies};
-ghost use Rattle.types.specs.Order.{same};
-ghost use Rattle.rules.specs.Outcome.{done, base};
-ghost use Rattle.rules.specs.Network.{single, again, send, onDeliver, onDrop, len};
-ghost use Rattle.net_network.specs.Views.{zeroEntry, entryList, netView, networkOf, NetReady, sentOf};
-ghost use Rattle.net_network.specs.Parts.{copiesOf, changed, entered, fitting, takenAt, takenOr, absentOf};
+ghost use Rattle.rules.specs.Outcome.{base};
+ghost use Rattle.rules.specs.Network.{send, onDeliver, onDrop, len};
+ghost use Rattle.net_network.specs.Views.{entryList, netView, networkOf, NetReady, back, sentOf};
+ghost use Rattle.net_network.specs.Parts.{Readable, readBack, lastAfter};
 
 // Places from the used count on hold the zero entry.
 pub struct Network {
@@ -41,19 +33,6 @@ pub struct Sent {
     pub network: Network,
 }
 
-pub fn zero_entry() -> Entry
-    ensures { λ r. ⌜ r ≡ zeroEntry ⌝ }
-{
-    Entry {
-        envelope: Envelope {
-            src: Id(0),
-            dst: Id(0),
-            msg: Message::Deliver(Number(0), Payload(0)),
-        },
-        count: 0,
-    }
-}
-
 // A network of a kind with nothing on it.
 pub fn blank(kind: Kind) -> Network
     ensures { λ r. ⌜ r ≡ networkOf (record { kind = kind; entries = []; last = Nothing }) ⌝ }
@@ -64,207 +43,6 @@ pub fn blank(kind: Kind) -> Network
         entries: [z; MOST_ENTRIES],
         used: 0,
         last: LastMessage::Nothing,
-    }
-}
-
-// Done, with other entries.
-fn changed(n: Network, entries: [Entry; MOST_ENTRIES], used: usize) -> Sent
-    ensures { λ r. ⌜ r ≡ changed n entries used ⌝ }
-{
-    let kind = n.kind;
-    let last = n.last;
-    Sent {
-        answer: Answer::Done,
-        network: Network {
-            kind: kind,
-            entries: entries,
-            used: used,
-            last: last,
-        },
-    }
-}
-
-// A new entry at a place, if there is room.
-fn insert_entry(n: Network, at: usize, e: Envelope) -> Sent
-    requires { ⌜ NetReady n × (at ≤ n .used) ⌝ }
-    ensures { λ r. ⌜ r ≡ sentOf n (fitting n (ins at (single e) (entryList n))) ⌝ }
-{
-    let used = n.used;
-    if MOST_ENTRIES <= used {
-        return Sent {
-            answer: Answer::NetworkFull,
-            network: n,
-        };
-    }
-    let es = n.entries;
-    let x = Entry {
-        envelope: e,
-        count: 1,
-    };
-    let grown = net_entries::insert_at(es, used, at, x);
-    changed(n, grown, used + 1)
-}
-
-// The copies that a send adds to an equal entry: a set holds one.
-fn copies(kind: Kind) -> u16
-    ensures { λ r. ⌜ r ≡ copiesOf kind ⌝ }
-{
-    match kind {
-        Kind::Ordered => 0,
-        Kind::UnorderedDuplicating => 0,
-        Kind::UnorderedNonDuplicating => 1,
-    }
-}
-
-// An equal entry is sent again, if its copies can be counted.
-fn count_up(n: Network, at: usize) -> Sent
-    requires { ⌜ NetReady n × (at < n .used) ⌝ }
-    ensures { λ r. ⌜ r ≡ sentOf n (fitting n (set (entryList n) at (again (n .kind) (getD (entryList n) at zeroEntry)))) ⌝ }
-{
-    let kind = n.kind;
-    let more = copies(kind);
-    let mut es = n.entries;
-    let x = es[at];
-    if MOST_COPIES - more < x.count {
-        return Sent {
-            answer: Answer::NetworkFull,
-            network: n,
-        };
-    }
-    let v = x.envelope;
-    es[at] = Entry {
-        envelope: v,
-        count: x.count + more,
-    };
-    changed(n, es, n.used)
-}
-
-// One copy less of the entry at a place; the last one takes the entry along.
-fn take_out(n: Network, at: usize) -> Sent
-    requires { ⌜ NetReady n × (at < n .used) ⌝ }
-    ensures { λ r. ⌜ r ≡ sentOf n (done (entered n (takenAt at (entryList n)))) ⌝ }
-{
-    let mut es = n.entries;
-    let used = n.used;
-    let x = es[at];
-    if x.count <= 1 {
-        let z = zero_entry();
-        let shrunk = net_entries::remove_at(es, used, at, z);
-        return changed(n, shrunk, used - 1);
-    }
-    let v = x.envelope;
-    es[at] = Entry {
-        envelope: v,
-        count: x.count - 1,
-    };
-    changed(n, es, used)
-}
-
-// After its flow.
-fn send_ordered(n: Network, e: Envelope) -> Sent
-    requires { ⌜ NetReady n × (n .kind ≡ Ordered) ⌝ }
-    ensures { λ r. ⌜ r ≡ sentOf n (send (base .room) e (netView n)) ⌝ }
-{
-    let es = n.entries;
-    let at = net_entries::scan(Look::UpToFlow, es, n.used, e);
-    insert_entry(n, at, e)
-}
-
-// Kinds 1 and 2: at its place.
-fn send_sorted(n: Network, e: Envelope) -> Sent
-    requires { ⌜ NetReady n × (n .kind ≡ Ordered → ⊥) ⌝ }
-    ensures { λ r. ⌜ r ≡ sentOf n (send (base .room) e (netView n)) ⌝ }
-{
-    let es = n.entries;
-    let used = n.used;
-    let f = net_entries::look_up(es, used, e);
-    match f {
-        Found::At(at) => count_up(n, at),
-        Found::Free(at) => insert_entry(n, at, e),
-    }
-}
-
-pub fn send(n: Network, e: Envelope) -> Sent
-    requires { ⌜ NetReady n ⌝ }
-    ensures { λ r. ⌜ r ≡ sentOf n (send (base .room) e (netView n)) ⌝ }
-{
-    let kind = n.kind;
-    match kind {
-        Kind::Ordered => send_ordered(n, e),
-        _ => send_sorted(n, e),
-    }
-}
-
-// The place of the first equal entry, or the count.
-fn equal_place(n: Network, e: Envelope) -> usize
-    requires { ⌜ NetReady n ⌝ }
-    ensures { λ r. ⌜ r ≡ lead (λ x. not (same e (x .envelope))) (entryList n) ⌝ }
-{
-    let es = n.entries;
-    let used = n.used;
-    let kind = n.kind;
-    match kind {
-        Kind::Ordered => net_entries::scan(Look::Differs, es, used, e),
-        _ => net_entries::sorted_place(es, used, e),
-    }
-}
-
-// One copy goes, or the answer is that of an absent message.
-fn take_one(n: Network, e: Envelope, absent: Answer) -> Sent
-    requires { ⌜ NetReady n ⌝ }
-    ensures { λ r. ⌜ r ≡ takenOr absent e n ⌝ }
-{
-    let used = n.used;
-    let at = equal_place(n, e);
-    if at < used {
-        return take_out(n, at);
-    }
-    Sent {
-        answer: absent,
-        network: n,
-    }
-}
-
-// The answer where there is nothing to drop: the duplicating kind is silent.
-fn when_absent(kind: Kind) -> Answer
-    ensures { λ r. ⌜ r ≡ absentOf kind ⌝ }
-{
-    match kind {
-        Kind::Ordered => Answer::Absent,
-        Kind::UnorderedDuplicating => Answer::Done,
-        Kind::UnorderedNonDuplicating => Answer::Absent,
-    }
-}
-
-pub fn on_drop(n: Network, e: Envelope) -> Sent
-    requires { ⌜ NetReady n ⌝ }
-    ensures { λ r. ⌜ r ≡ sentOf n (onDrop e (netView n)) ⌝ }
-{
-    let kind = n.kind;
-    let absent = when_absent(kind);
-    take_one(n, e, absent)
-}
-
-pub fn on_deliver(n: Network, e: Envelope) -> Sent
-    requires { ⌜ NetReady n ⌝ }
-    ensures { λ r. ⌜ r ≡ sentOf n (onDeliver e (netView n)) ⌝ }
-{
-    let kind = n.kind;
-    match kind {
-        Kind::UnorderedDuplicating => {
-            let es = n.entries;
-            let message = LastMessage::Delivered(e);
-            Sent {
-                answer: Answer::Done,
-                network: Network {
-                    kind: kind,
-                    entries: es,
-                    used: n.used,
-                    last: message,
-                },
-            }
-        }
-        _ => take_one(n, e, Answer::Absent),
     }
 }
 
@@ -289,4 +67,78 @@ pub fn len(n: Network) -> u64
         i += 1;
     }
     sum
+}
+
+// An answer with the network that the used cells are. After a refusal they are those of the network that came.
+fn laid_back(answer: Answer, kind: Kind, c: &[[u64; 4]], used: usize, last: LastMessage) -> Sent
+    requires { ⌜ Readable (now c) used ⌝ }
+    ensures { λ r. ⌜ r ≡ back answer (readBack kind (now (c .entry)) used last) ⌝ }
+{
+    let es = entries_of(c, used);
+    Sent {
+        answer: answer,
+        network: Network {
+            kind: kind,
+            entries: es,
+            used: used,
+            last: last,
+        },
+    }
+}
+
+pub fn send(n: Network, e: Envelope) -> Sent
+    requires { ⌜ NetReady n ⌝ }
+    ensures { λ r. ⌜ r ≡ sentOf n (send (base .room) e (netView n)) ⌝ }
+{
+    let kind = n.kind;
+    let es = n.entries;
+    let used = n.used;
+    let last = n.last;
+    let count = len(n);
+    let mut cells = cells_of(es, used);
+    let s = net_rows::send(&mut cells, kind, used, count, e);
+    let answer = s.answer;
+    laid_back(answer, kind, &cells, s.used, last)
+}
+
+pub fn on_drop(n: Network, e: Envelope) -> Sent
+    requires { ⌜ NetReady n ⌝ }
+    ensures { λ r. ⌜ r ≡ sentOf n (onDrop e (netView n)) ⌝ }
+{
+    let kind = n.kind;
+    let es = n.entries;
+    let used = n.used;
+    let last = n.last;
+    let count = len(n);
+    let mut cells = cells_of(es, used);
+    let s = net_rows::on_drop(&mut cells, kind, used, count, e);
+    let answer = s.answer;
+    laid_back(answer, kind, &cells, s.used, last)
+}
+
+// The last message after a Deliver: on the duplicating kind, where none is refused, it is this one.
+fn last_after(kind: Kind, e: Envelope, last: LastMessage) -> LastMessage
+    ensures { λ r. ⌜ r ≡ lastAfter kind e last ⌝ }
+{
+    match kind {
+        Kind::Ordered => last,
+        Kind::UnorderedDuplicating => LastMessage::Delivered(e),
+        Kind::UnorderedNonDuplicating => last,
+    }
+}
+
+pub fn on_deliver(n: Network, e: Envelope) -> Sent
+    requires { ⌜ NetReady n ⌝ }
+    ensures { λ r. ⌜ r ≡ sentOf n (onDeliver e (netView n)) ⌝ }
+{
+    let kind = n.kind;
+    let es = n.entries;
+    let used = n.used;
+    let before = n.last;
+    let last = last_after(kind, e, before);
+    let count = len(n);
+    let mut cells = cells_of(es, used);
+    let s = net_rows::on_deliver(&mut cells, kind, used, count, e);
+    let answer = s.answer;
+    laid_back(answer, kind, &cells, s.used, last)
 }

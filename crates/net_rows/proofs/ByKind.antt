@@ -3,17 +3,16 @@
 use Prim.Native.Nat.{ℕ, _≤_, _<_}
 use native.Mathlib.Omega.{arith}
 use native.Mathlib.Decide.{decLe}
-use mathlib.Core.Path.{_≡_, refl, sym, ap, ap₂, _∙_, subst}
-use mathlib.Core.Bool.{Bool, true, false, not, _||_, true≢false, false≢true}
-use mathlib.Core.List.{List, [], _∷_, map}
+use mathlib.Core.Path.{_≡_, refl, sym, ap, _∙_, subst}
+use mathlib.Core.Bool.{Bool, true, false, not, _||_}
+use mathlib.Core.List.{List, [], _∷_}
 use lib.ListN.{length, take, getD, set}
 use lib.Seq.{set-getD}
 use lib.Dec.{leb}
 use borrow.Author.Tests.{le-leb, lt-leb}
-use Rattle.lists.specs.Lists.{choose, any, chain, lead, ins, del}
+use Rattle.lists.specs.Lists.{choose, chain, lead, ins}
 use Rattle.types.specs.declared.Envelope.{Envelope}
 use Rattle.types.specs.declared.Entry.{Entry}
-use Rattle.types.specs.declared.Order.{Order}
 use Rattle.types.specs.declared.Kind.{Kind}
 use Rattle.types.specs.declared.Kind.the-variants.{Ordered, UnorderedDuplicating, UnorderedNonDuplicating}
 use Rattle.types.specs.declared.LastMessage.{LastMessage}
@@ -21,15 +20,15 @@ use Rattle.answers.specs.declared.Answer.the-variants.{Done, Absent}
 use Rattle.answers.specs.Answers.{answerOf}
 use Rattle.types.specs.Order.{lex, cmpEnvelope, cmpFlow, isLess, isEqual, same}
 use Rattle.types.proofs.Laws.{andThen-equal, lex-trans, less-is, same-is}
-use Rattle.rules.specs.Outcome.{Outcome, done, refused, guard, Room}
-use Rattle.rules.specs.Network.{Net, single, again, put, sending, send, isDuplicating, remove, dropping, delivering, present, onDeliver, onDrop}
+use Rattle.rules.specs.Outcome.{done, guard}
+use Rattle.rules.specs.Network.{single, again, put, sending, send, isDuplicating, remove, dropping, delivering, present, onDeliver, onDrop}
 use Rattle.rules.specs.WellFormed.{inOrder}
 use Rattle.rules.proofs.Network.{put-ordered, put-new, put-again, remove-last, remove-one, remove-absent}
-use Rattle.net_entries.specs.Search.{zeroEntry, stands}
-use Rattle.net_entries.proofs.Tests.{any-yes, any-no}
-use Rattle.net_entries.proofs.Lookup.{There, Missing, before}
-use Rattle.net_cells.specs.Cells.{cellOf, entryOf, cmpCell, flowOf}
-use Rattle.net_cells.proofs.Laws.{Narrow, cell-order, cell-flows, back, narrow, narrow-all, lead-cells, chain-cells}
+use Rattle.net_rows.specs.Search.{stands}
+use Rattle.net_slots.proofs.Tests.{any-yes, any-no}
+use Rattle.net_rows.proofs.Lookup.{There, Missing, before}
+use Rattle.net_cells.specs.Cells.{zeroEntry, cellOf, cmpCell, flowOf, Packed}
+use Rattle.net_cells.proofs.Laws.{Narrow, cell-order, cell-flows, narrow, narrow-all, lead-cells, chain-cells}
 use Rattle.net_slots.specs.declared.Look.the-variants.{Before, UpToFlow}
 use Rattle.net_slots.specs.Search.{passesOf, Once}
 use Rattle.net_slots.proofs.Laws.{once, flows, flows-trans}
@@ -54,12 +53,29 @@ pub counted-sorted : UnorderedNonDuplicating ≡ Ordered → ⊥
 counted-sorted o = let z : _≡_ {A = ℕ} 0 1 = cc in omega arith
 
 -- ---- the cell of an envelope
-pub envelope-is : (e : Envelope) (k : List ℕ) → e .dst .0 < 256 → k ≡ cellOf (single e) → envelopeIn k ≡ e
+pub envelope-is : (e : Envelope) (k : List ℕ) → Packed (single e) k → envelopeIn k ≡ e
 unfolding single
-envelope-is e k h q = ap envelopeIn q ∙ ap (λ (x : Entry). x .envelope) (back (single e) h)
+envelope-is e k p = ap (λ (x : Entry). x .envelope) (p .back)
 
-pub is-alone : (e : Envelope) (k : List ℕ) → e .dst .0 < 256 → k ≡ cellOf (single e) → Alone k
-is-alone e k h q = q ∙ ap (λ (x : Envelope). cellOf (single x)) (sym (envelope-is e k h q))
+pub is-alone : (e : Envelope) (k : List ℕ) → Packed (single e) k → Alone k
+is-alone e k p = p .cell ∙ ap (λ (x : Envelope). cellOf (single x)) (sym (envelope-is e k p))
+
+-- a kind and an envelope as the caller names them
+pub ready-as : {k j : Kind} {cs : List (List ℕ)} {used n : ℕ} → k ≡ j → NetReady k cs used n → NetReady j cs used n
+ready-as {cs = cs} {used = used} {n = n} e r = subst (λ (i : Kind). NetReady i cs used n) e r
+
+module _ {cs cs' : List (List ℕ)} {used n : ℕ} {r : Sent} {kind j : Kind} {k : List ℕ} (e : Envelope) where
+  pub sent-as
+      : Packed (single e) k → kind ≡ j → (last : LastMessage) → Changed cs used n (send (roomOf cs) (envelopeIn k) (netOf j last cs used)) r cs'
+      → Changed cs used n (send (roomOf cs) e (netOf kind last cs used)) r cs'
+  sent-as p q last c =
+      subst (λ (h : Kind). Changed cs used n (send (roomOf cs) e (netOf h last cs used)) r cs') (sym q)
+      (subst (λ (g : Envelope). Changed cs used n (send (roomOf cs) g (netOf j last cs used)) r cs') (envelope-is e k p) c)
+
+pub place-as
+    : (e : Envelope) (k : List ℕ) → Packed (single e) k
+    → (l : List Entry) → lead (λ x. not (same (envelopeIn k) (x .envelope))) l ≡ lead (λ x. not (same e (x .envelope))) l
+place-as e k p l = ap (λ (f : Envelope). lead (λ x. not (same f (x .envelope))) l) (envelope-is e k p)
 
 -- ---- the order of cells
 abbrev key : List ℕ → List ℕ
@@ -84,7 +100,7 @@ same-turned a b = go (same a b) refl (same b a) refl
     go false e true f = let z = same-is b a f in sym (subst (λ (x : Envelope). same x b ≡ false) (sym z) e) ∙ subst (λ (x : Envelope). same b x ≡ true) (sym z) f
     go false e false f = refl
 
-module _ (cs : List (List ℕ)) (used n : ℕ) (laid : NetLaid cs used n) where
+module _ {cs : List (List ℕ)} {used n : ℕ} (laid : NetLaid cs used n) where
   abbrev l : List Entry
   l = entryList cs used
 
@@ -95,7 +111,7 @@ module _ (cs : List (List ℕ)) (used n : ℕ) (laid : NetLaid cs used n) where
   unfolding inOrder
   cells-flow s = ap (chain flows) (laid .cells) ∙ chain-cells cellOf Narrow flows (inOrder Ordered) (λ x y p q. cell-flows x y p q) l (narrow-all (take used cs)) ∙ s
 
-  module _ (k : List ℕ) (alone : Alone k) where
+  module _ {k : List ℕ} (alone : Alone k) where
     abbrev e : Envelope
     e = envelopeIn k
 
@@ -115,7 +131,7 @@ module _ (cs : List (List ℕ)) (used n : ℕ) (laid : NetLaid cs used n) where
     before-is at p = p ∙ ap (lead (passesOf Before k)) (laid .cells) ∙ lead-cells cellOf Narrow (passesOf Before k) (before e) (λ x q. ap isLess (order-of x q)) l (narrow-all (take used cs))
 
     pub found-is : (at : ℕ) → at < used → (b : Bool) → b ≡ isEqual (cmpCell (getD cs at []) k) → same e (getD l at zeroEntry .envelope) ≡ b
-    found-is at h b p = sym (p ∙ ap (λ (x : List ℕ). isEqual (cmpCell x k)) (at-cell cs used n laid at h) ∙ same-of (getD l at zeroEntry) (narrow-at cs used n laid at h))
+    found-is at h b p = sym (p ∙ ap (λ (x : List ℕ). isEqual (cmpCell x k)) (at-cell laid at h) ∙ same-of (getD l at zeroEntry) (narrow-at laid at h))
 
     pub flow-is : (at : ℕ) → at ≡ lead (passesOf UpToFlow k) (take used cs) → at ≡ lead (λ x. not (isLess (cmpFlow e (x .envelope)))) l
     unfolding single
@@ -146,10 +162,6 @@ module _ (cs : List (List ℕ)) (used n : ℕ) (laid : NetLaid cs used n) where
     pub put-same : (at : ℕ) → There e l at → put UnorderedDuplicating e l ≡ l
     unfolding again
     put-same at m = put-there UnorderedDuplicating at set-sorted m ∙ set-getD l at zeroEntry
-
-    -- the envelope and the kind as the caller names them
-    pub sent-as : (f : Envelope) (j kind : Kind) (last : LastMessage) (r : Sent) (cs' : List (List ℕ)) → e ≡ f → kind ≡ j → Changed cs used n (send (roomOf cs) e (netOf j last cs used)) r cs' → Changed cs used n (send (roomOf cs) f (netOf kind last cs used)) r cs'
-    sent-as f j kind last r cs' p q c = subst (λ (h : Kind). Changed cs used n (send (roomOf cs) f (netOf h last cs used)) r cs') (sym q) (subst (λ (g : Envelope). Changed cs used n (send (roomOf cs) g (netOf j last cs used)) r cs') p c)
 
   -- ---- removals
   module _ (e : Envelope) where
@@ -185,7 +197,7 @@ module _ (cs : List (List ℕ)) (used n : ℕ) (laid : NetLaid cs used n) where
       where
         go : (k : Kind) → remove e l ≡ l → Changed cs used n (guard (isDuplicating k || false) 3 (done (netWith k last (remove e l)))) (record { answer = absentOf k; used = used; len = n }) cs
         go Ordered q = changed-not cs used n _ 3 refl Absent refl
-        go UnorderedDuplicating q = changed-done cs used n _ (netWith UnorderedDuplicating last (remove e l)) refl cs refl used n (subst (λ (m : List Entry). Holds cs used n m) (sym q) (as-it-was cs used n laid))
+        go UnorderedDuplicating q = changed-done cs used n _ (netWith UnorderedDuplicating last (remove e l)) refl cs refl used n (subst (λ (m : List Entry). Holds cs used n m) (sym q) (as-it-was laid))
         go UnorderedNonDuplicating q = changed-not cs used n _ 3 refl Absent refl
 
     -- ---- Deliver
@@ -195,4 +207,4 @@ module _ (cs : List (List ℕ)) (used n : ℕ) (laid : NetLaid cs used n) where
 
     pub delivered-copy : (kind : Kind) → isDuplicating kind ≡ true → (last : LastMessage) → Changed cs used n (onDeliver e (netOf kind last cs used)) (record { answer = Done; used = used; len = n }) cs
     unfolding onDeliver delivering choose guard
-    delivered-copy kind h last = rw h (changed-done cs used n _ _ refl cs refl used n (as-it-was cs used n laid))
+    delivered-copy kind h last = rw h (changed-done cs used n _ _ refl cs refl used n (as-it-was laid))

@@ -1,38 +1,33 @@
 -- Cells that hold entries: what a change of the cells is to the entries.
 -- Assumes nothing.
-use Prim.Native.Nat.{ℕ, zero, suc, _+_, _*_, _-_, _≤_, _<_, suc-le-suc, zero-le}
+use Prim.Native.Nat.{ℕ, zero, suc, _+_, _*_, _-_, _≤_, _<_}
 use native.Mathlib.Nat.{not-suc-le-zero, le-of-suc-le-suc}
 use native.Mathlib.Omega.{arith}
-use native.Mathlib.Decide.{decLe, decLt}
 use mathlib.Core.Path.{_≡_, refl, sym, ap, ap₂, _∙_, subst}
-use mathlib.Core.Bool.{Bool, true, false, not, _&&_, _||_, true≢false}
-use mathlib.Core.List.{List, [], _∷_, _++_, map}
-use lib.ListN.{length, take, drop, getD, set, length-set, length-map}
-use lib.Seq.{getD-take, length-take-le, take-set-lt, set-getD}
+use mathlib.Core.Bool.{Bool, true, false}
+use mathlib.Core.List.{List, [], _∷_, map}
+use lib.ListN.{length, take, getD, set, length-set, length-map}
+use lib.Seq.{getD-take, length-take-le, take-set-lt}
 use lib.Dec.{leb}
 use borrow.Author.Tests.{le-leb, lt-leb, leb-true}
-use Rattle.lists.specs.Lists.{choose, any, all, chain, lead, ins, del}
-use Rattle.lists.proofs.Places.{length-ins, length-del, lead-le}
+use Rattle.lists.specs.Lists.{choose, all, lead, ins, del}
+use Rattle.lists.proofs.Places.{length-ins, lead-le}
 use Rattle.lists.proofs.Members.{and-both}
 use Rattle.lists.proofs.Sorted.{All}
-use Rattle.types.specs.declared.Envelope.{Envelope}
 use Rattle.types.specs.declared.Entry.{Entry}
 use Rattle.types.specs.declared.Kind.{Kind}
-use Rattle.types.specs.declared.Kind.the-variants.{Ordered, UnorderedDuplicating, UnorderedNonDuplicating}
+use Rattle.types.specs.declared.Kind.the-variants.{UnorderedNonDuplicating}
 use Rattle.types.specs.declared.LastMessage.{LastMessage}
 use Rattle.answers.specs.declared.Answer.{Answer}
 use Rattle.answers.specs.declared.Answer.the-variants.{Done, NetworkFull}
 use Rattle.answers.specs.Answers.{answerOf}
 use Rattle.types.specs.Capacities.{mostCopies}
-use Rattle.types.specs.Order.{tagOf, numberOf, payloadOf}
 use Rattle.rules.specs.Outcome.{Outcome, done, refused, guard, Room}
 use Rattle.rules.specs.Network.{Net, single, again, lowered, fits, len}
-use Rattle.net_entries.specs.Search.{zeroEntry}
-use Rattle.net_entries.proofs.Tests.{all-ins, all-set}
-use Rattle.net_cells.specs.Cells.{cellOf, entryOf}
+use Rattle.net_cells.specs.Cells.{zeroEntry, cellOf, entryOf}
+use Rattle.net_slots.proofs.Tests.{all-ins, all-set}
 use Rattle.net_cells.proofs.Laws.{Narrow, back-all, narrow, narrow-all}
-use Rattle.net_rows.specs.declared.Sent.{Sent}
-use Rattle.net_rows.specs.Views.{entryList, netOf, roomOf, mostRoom, NetLaid, Holds, Left, Changed}
+use Rattle.net_rows.specs.Views.{entryList, roomOf, mostRoom, NetLaid, Holds, Left, Changed}
 use Rattle.net_rows.specs.Parts.{envelopeIn, Alone, netWith, fitting, takenAt}
 
 -- ---- maps and places
@@ -151,33 +146,36 @@ full-is = refl
 pub holds : (cs : List (List ℕ)) (used n : ℕ) (l : List Entry) → used ≤ length cs → take used cs ≡ map cellOf l → All Narrow l → n ≡ len l → Holds cs used n l
 holds cs used n l h e w s = record { fit = h; cells = e; entries = ap (map entryOf) e ∙ back-all l w; sum = s }
 
-module _ (cs : List (List ℕ)) (used n : ℕ) (laid : NetLaid cs used n) where
+pub used-is : (cs : List (List ℕ)) (used n : ℕ) → NetLaid cs used n → length (entryList cs used) ≡ used
+used-is cs used n laid = length-map (take used cs) entryOf ∙ length-take-le used cs (laid .fit)
+
+module _ {cs : List (List ℕ)} {used n : ℕ} (laid : NetLaid cs used n) where
   abbrev l : List Entry
   l = entryList cs used
 
-  pub used-is : length l ≡ used
-  used-is = length-map (take used cs) entryOf ∙ length-take-le used cs (laid .fit)
+  sized : length l ≡ used
+  sized = used-is cs used n laid
 
   pub at-cell : (i : ℕ) → i < used → getD cs i [] ≡ cellOf (getD l i zeroEntry)
-  at-cell i h = let v = used-is in sym (getD-take used cs i [] h) ∙ ap (λ (x : List (List ℕ)). getD x i []) (laid .cells) ∙ map-get cellOf i l zeroEntry [] (omega arith)
+  at-cell i h = let v = sized in sym (getD-take used cs i [] h) ∙ ap (λ (x : List (List ℕ)). getD x i []) (laid .cells) ∙ map-get cellOf i l zeroEntry [] (omega arith)
 
   pub narrow-at : (i : ℕ) → i < used → Narrow (getD l i zeroEntry)
-  narrow-at i h = let v = used-is in get-all Narrow i l zeroEntry (omega arith) (narrow-all (take used cs))
+  narrow-at i h = let v = sized in get-all Narrow i l zeroEntry (omega arith) (narrow-all (take used cs))
 
   pub at-count : (i : ℕ) → i < used → getD (getD cs i []) 3 0 ≡ getD l i zeroEntry .count
   at-count i h = ap (λ (x : List ℕ). getD x 3 0) (at-cell i h) ∙ cell-count (getD l i zeroEntry)
 
   pub len-small : n ≤ mostCopies * mostRoom
-  len-small = omega (arith, laid .sum, len-most l (laid .counts), used-is, laid .fit, laid .room)
+  len-small = omega (arith, laid .sum, len-most l (laid .counts), sized, laid .fit, laid .room)
 
   pub len-holds : (i : ℕ) → i < used → getD (getD cs i []) 3 0 ≤ n
-  len-holds i h = let v = used-is in let w = at-count i h in omega (arith, laid .sum, len-some i l (omega arith))
+  len-holds i h = let v = sized in let w = at-count i h in omega (arith, laid .sum, len-some i l (omega arith))
 
   pub as-it-was : Holds cs used n l
   as-it-was = holds cs used n l (laid .fit) (laid .cells) (narrow-all (take used cs)) (laid .sum)
 
   pub unchanged : (kind : Kind) (last : LastMessage) → Changed cs used n (fitting (roomOf cs) kind last l) (record { answer = Done; used = used; len = n }) cs
-  unchanged kind last = let v = used-is in
+  unchanged kind last = let v = sized in
       changed-done cs used n _ (netWith kind last l) (fitting-done (roomOf cs) kind last l (omega (arith, laid .fit)) (laid .counts)) cs refl used n as-it-was
 
   pub lead-fits : (p : List ℕ → Bool) (at : ℕ) → at ≡ lead p (take used cs) → at ≤ used
@@ -189,14 +187,14 @@ module _ (cs : List (List ℕ)) (used n : ℕ) (laid : NetLaid cs used n) where
     grown = ins at (single (envelopeIn k)) l
 
     pub insert-full : length cs ≤ used → Changed cs used n (fitting (roomOf cs) kind last grown) (record { answer = NetworkFull; used = used; len = n }) cs
-    insert-full g = let v = used-is in
+    insert-full g = let v = sized in
         changed-not cs used n _ 8 (fitting-long (roomOf cs) kind last grown (omega (arith, length-ins at (single (envelopeIn k)) l (omega arith)))) NetworkFull full-is
 
     pub insert-done : used < length cs → (cs' : List (List ℕ)) → (take (used + 1) cs' ≡ ins at k (take used cs)) × (length cs' ≡ length cs)
         → Changed cs used n (fitting (roomOf cs) kind last grown) (record { answer = Done; used = used + 1; len = n + 1 }) cs'
     unfolding single
     insert-done g cs' p =
-        let v = used-is in
+        let v = sized in
         let w = length-ins at (single (envelopeIn k)) l (omega arith) in
         let s : n + 1 ≡ len grown = omega (arith, laid .sum, len-ins at (single (envelopeIn k)) l (omega arith)) in
         let q : take (used + 1) cs' ≡ map cellOf grown = p .0 ∙ ap₂ (λ (x : List ℕ) (m : List (List ℕ)). ins at x m) alone (laid .cells) ∙ map-ins cellOf at (single (envelopeIn k)) l in
@@ -218,7 +216,7 @@ module _ (cs : List (List ℕ)) (used n : ℕ) (laid : NetLaid cs used n) where
 
     recounted : (v : ℕ) → v + x .count ≡ n + f x → Holds cs' used v (set l at y)
     recounted v e =
-        let w = used-is in
+        let w = sized in
         let q : take used cs' ≡ map cellOf (set l at y) =
         take-set-lt used cs at (set (getD cs at []) 3 (f x)) h
         ∙ ap₂ (λ (m : List (List ℕ)) (z : List ℕ). set m at z) (laid .cells) (ap (λ (z : List ℕ). set z 3 (f x)) (at-cell at h) ∙ cell-counted x (f x))
@@ -234,7 +232,7 @@ module _ (cs : List (List ℕ)) (used n : ℕ) (laid : NetLaid cs used n) where
     pub count-full : mostCopies ≤ getD (getD cs at []) 3 0 → Changed cs used n (fitting (roomOf cs) UnorderedNonDuplicating last more) (record { answer = NetworkFull; used = used; len = n }) cs
     unfolding again
     count-full g =
-        let v = used-is in
+        let v = sized in
         let w = at-count at h in
         let y = again UnorderedNonDuplicating (getD l at zeroEntry) in
         changed-not cs used n _ 8
@@ -246,7 +244,7 @@ module _ (cs : List (List ℕ)) (used n : ℕ) (laid : NetLaid cs used n) where
         → Changed cs used n (fitting (roomOf cs) UnorderedNonDuplicating last more) (record { answer = Done; used = used; len = n + 1 }) (set cs at (set (getD cs at []) 3 (getD (getD cs at []) 3 0 + 1)))
     unfolding again
     count-done g =
-        let v = used-is in
+        let v = sized in
         let w = at-count at h in
         let y = again UnorderedNonDuplicating (getD l at zeroEntry) in
         let z : getD (getD cs at []) 3 0 + 1 ≡ suc (getD l at zeroEntry .count) = omega arith in
@@ -264,7 +262,7 @@ module _ (cs : List (List ℕ)) (used n : ℕ) (laid : NetLaid cs used n) where
         → Changed cs used n (done (netWith kind last less)) (record { answer = Done; used = used - 1; len = n - getD (getD cs at []) 3 0 }) cs'
     unfolding takenAt choose
     take-last g cs' p =
-        let v = used-is in
+        let v = sized in
         let w = at-count at h in
         let m = getD l at zeroEntry in
         let k : m .count ≤ 1 = omega arith in
@@ -278,7 +276,7 @@ module _ (cs : List (List ℕ)) (used n : ℕ) (laid : NetLaid cs used n) where
         → Changed cs used n (done (netWith kind last less)) (record { answer = Done; used = used; len = n - 1 }) (set cs at (set (getD cs at []) 3 (getD (getD cs at []) 3 0 - 1)))
     unfolding takenAt choose lowered
     take-more g =
-        let v = used-is in
+        let v = sized in
         let w = at-count at h in
         let m = getD l at zeroEntry in
         let k : 1 < m .count = omega arith in

@@ -1,12 +1,12 @@
 -- A change of a ready network gives a ready one, and leaves the entries of its outcome.
 -- Assumes nothing.
-use Prim.Native.Nat.{ℕ, _-_, _≤_}
+use Prim.Native.Nat.{ℕ, _-_}
 use native.Mathlib.Omega.{arith}
 use mathlib.Core.Path.{_≡_, refl, sym, ap, _∙_, subst}
 use mathlib.Core.Logic.{⊎-elim}
 use mathlib.Core.Bool.{Bool, true, false}
 use mathlib.Core.List.{List, map, List·Memᴰ·not-nil, List·Memᴰ·eq-of-singleton}
-use lib.ListN.{length, take}
+use lib.ListN.{length}
 use lib.Dec.{leb}
 use borrow.Author.Tests.{leb-true, le-leb}
 use Rattle.lists.specs.Lists.{_∈_, choose, all, chain}
@@ -18,14 +18,13 @@ use Rattle.types.specs.declared.Kind.{Kind}
 use Rattle.types.specs.declared.LastMessage.{LastMessage}
 use Rattle.types.specs.declared.LastMessage.the-variants.{Delivered}
 use Rattle.types.specs.Capacities.{mostCopies}
-use Rattle.types.specs.Order.{same}
-use Rattle.rules.specs.Outcome.{Outcome, done, refused, guard, Room}
+use Rattle.rules.specs.Outcome.{Outcome, done, refused, guard}
 use Rattle.rules.specs.Network.{Net, put, sending, fits, send, lowered, fewer, remove, dropping, delivering, isDuplicating, onDeliver, onDrop}
 use Rattle.rules.specs.WellFormed.{inOrder}
 use Rattle.rules.proofs.FormedNetwork.{net-places, net-cuts}
-use Rattle.net_cells.specs.Cells.{cellOf, entryOf}
+use Rattle.net_cells.specs.Cells.{cellOf}
 use Rattle.net_rows.specs.declared.Sent.{Sent}
-use Rattle.net_rows.specs.Views.{entryList, netOf, roomOf, NetLaid, NetReady, Holds, Left, Changed}
+use Rattle.net_rows.specs.Views.{entryList, netOf, roomOf, NetReady, Changed}
 
 -- The order and the counts of the rules' network.
 pub record Orderly (m : Net) : Type 0 where

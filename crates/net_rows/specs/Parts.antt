@@ -15,8 +15,7 @@ use Rattle.types.specs.declared.Kind.the-variants.{Ordered, UnorderedDuplicatin
 use Rattle.types.specs.declared.LastMessage.{LastMessage}
 use Rattle.rules.specs.Outcome.{Outcome, done, guard, Room}
 use Rattle.rules.specs.Network.{Net, single, fits, lowered}
-use Rattle.net_entries.specs.Search.{zeroEntry}
-use Rattle.net_cells.specs.Cells.{cellOf, entryOf}
+use Rattle.net_cells.specs.Cells.{zeroEntry, cellOf, entryOf}
 
 -- The envelope that a cell is, and a cell that is an envelope once.
 abbrev pub envelopeIn : List ℕ → Envelope

@@ -1,7 +1,6 @@
 // The network in place: send, deliver and drop of the first used cells of a lent slice, for all three kinds. The used
 // count and the count of messages go in and come back in a small answer. On a refusal the cells are as they were.
 use net_cells::cell_of;
-use net_entries::Found;
 use net_slots::Look;
 use net_slots::first_equal;
 use net_slots::halve;
@@ -22,8 +21,8 @@ ghost use Rattle.types.specs.declared.LastMessage.{LastMessage};
 ghost use Rattle.types.specs.Order.{same};
 ghost use Rattle.rules.specs.Outcome.{done};
 ghost use Rattle.rules.specs.Network.{single, again, send, onDeliver, onDrop};
-ghost use Rattle.rules.specs.WellFormed.{inOrder};
-ghost use Rattle.net_entries.specs.Search.{zeroEntry, stands, lookUp};
+ghost use Rattle.net_cells.specs.Cells.{zeroEntry};
+ghost use Rattle.net_rows.specs.Search.{stands, lookUp};
 ghost use Rattle.net_rows.specs.Views.{entryList, netOf, roomOf, NetLaid, NetReady, Changed};
 ghost use Rattle.net_rows.specs.Parts.{envelopeIn, Alone, fitting, netWith, takenAt, absentOf};
 
@@ -32,6 +31,12 @@ pub struct Sent {
     pub answer: Answer,
     pub used: usize,
     pub len: u64,
+}
+
+// Where an envelope is, or where it would stand.
+enum Found {
+    At(usize),
+    Free(usize),
 }
 
 // A new cell at a place, if there is room.

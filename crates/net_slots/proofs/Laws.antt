@@ -1,21 +1,21 @@
 -- The loops that shift cells, and what order gives a search by halves.
 -- Assumes nothing.
-use Prim.Native.Nat.{ℕ, zero, suc, _+_, _-_, _/_, _≤_, _<_, suc-le-suc, zero-le}
+use Prim.Native.Nat.{ℕ, zero, suc, _+_, _-_, _/_, _≤_, _<_}
 use native.Mathlib.Nat.{not-suc-le-zero, le-of-suc-le-suc}
 use native.Mathlib.Omega.{arith}
 use native.Mathlib.Numerals.{add-one}
 use native.Mathlib.Decide.{decLt}
 use mathlib.Core.Path.{_≡_, refl, sym, ap, _∙_}
-use mathlib.Core.Bool.{Bool, true, false, not}
-use mathlib.Core.List.{List, [], _∷_, _++_}
-use lib.ListN.{length, take, drop, getD, set}
+use mathlib.Core.Bool.{Bool, true, not}
+use mathlib.Core.List.{List, [], _∷_}
+use lib.ListN.{length, take, getD, set}
 use lib.Seq.{getD-take, length-take-le}
-use lib.Dec.{leb, ltb}
+use lib.Dec.{leb}
 use borrow.Author.Tests.{leb-true, le-leb, lt-ltb, ltb-true}
 use Rattle.lists.specs.Lists.{chain, lead, ins, del}
-use Rattle.lists.proofs.Sorted.{Sorted, sorted-at, chain-sorted}
+use Rattle.lists.proofs.Sorted.{sorted-at, chain-sorted}
 use Rattle.lists.proofs.Places.{del-end, lead-le, lead-pass}
-use Rattle.types.specs.Order.{isLess, isEqual}
+use Rattle.types.specs.Order.{isEqual}
 use Rattle.net_cells.specs.Cells.{tags, cmpCell, flowOf}
 use Rattle.net_cells.proofs.Laws.{other-head}
 use Rattle.net_slots.specs.declared.Look.the-variants.{BeforeFlow}

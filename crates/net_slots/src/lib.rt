@@ -6,7 +6,7 @@ use net_cells::same;
 ghost use mathlib.Core.Path.{_≡_};
 ghost use mathlib.Core.Bool.{true, not};
 ghost use Prim.Native.Nat.{_+_, _-_, _/_, _≤_, _<_};
-ghost use lib.ListN.{length, take, getD};
+ghost use lib.ListN.{length, take};
 ghost use lib.Dec.{leb};
 ghost use Rattle.lists.specs.Lists.{chain, lead, ins, del};
 ghost use Rattle.types.specs.Order.{isEqual};

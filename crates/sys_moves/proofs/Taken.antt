@@ -8,7 +8,7 @@ use mathlib.Core.Option.{some}
 use mathlib.Core.List.{List, [], _∷_, _++_, append-assoc}
 use lib.ListN.{length, take, getD, set}
 use Rattle.lists.specs.Lists.{choose, any, lead}
-use Rattle.net_entries.proofs.Tests.{any-yes, any-no}
+use Rattle.net_slots.proofs.Tests.{any-yes, any-no}
 use Rattle.types.specs.Capacities.{mostPending, mostCommands, mostTold}
 use Rattle.types.specs.declared.Id.{Id}
 use Rattle.types.specs.declared.Number.{Number}

@@ -19,10 +19,15 @@ head-with-requires-2 : tie.Need-head-with-requires-2
 head-with-requires-2 c κs = search needs
 
 returns : tie.Need-returns
-returns c = let e = c .before .before .before .before .before .before .before .args .e in made-message e _ _ (c .before .head-with .result) (c .before .before .before .m .given .1) (c .before .head-with .ensures)
+returns c = 
+    let e = c .before .before .before .before .before .before .before .args .e in
+    made-message e _ _ (c .before .head-with .result) (c .before .before .before .m .given .1) (c .before .head-with .ensures)
+    (search needs) (search needs) (search needs)
 
 returns-2 : tie.Need-returns-2
-returns-2 c = let e = c .before .before .before .before .before .before .args .e in made-ack e _ (c .head-with2 .result) (c .before .before .m2 .given .1) (c .head-with2 .ensures)
+returns-2 c = 
+    let e = c .before .before .before .before .before .before .args .e in
+    made-ack e _ (c .head-with2 .result) (c .before .before .m2 .given .1) (c .head-with2 .ensures) (search needs) (search needs)
 
 pub cell-of-spec : {M : Type 1} → statement M
 cell-of-spec =

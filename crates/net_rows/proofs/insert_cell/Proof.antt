@@ -5,7 +5,7 @@ use Rattle.net_rows.proofs.insert_cell.Statement.{statement}
 use Rattle.net_rows.proofs.insert_cell.Tie as tie
 
 returns : tie.Need-returns
-returns c = let s = c .before in λ kind last. insert-full (s .args .c .now) (s .args .used) (s .args .len) (s .pre .0) (s .args .at) (s .args .k) (s .pre .1) (s .pre .2) kind last (c .if1 .taken)
+returns c = let s = c .before in λ kind last. insert-full (s .pre .0) (s .args .at) (s .args .k) (s .pre .1) (s .pre .2) kind last (c .if1 .taken)
 
 insert-at-requires : tie.Need-insert-at-requires
 insert-at-requires c κs = search needs
@@ -14,13 +14,13 @@ add-t6 : tie.Need-add-t6
 add-t6 c = search needs
 
 add-t13 : tie.Need-add-t13
-add-t13 c = let s = c .before .before .before .before in omega (arith, len-small (s .args .c .now) (s .args .used) (s .args .len) (s .pre .0))
+add-t13 c = let s = c .before .before .before .before in omega (arith, len-small (s .pre .0))
 
 same-length : tie.Need-same-length
 same-length c = search needs
 
 returns-2 : tie.Need-returns-2
-returns-2 c = let s = c .before .before .before .before in λ kind last. insert-done (s .args .c .now) (s .args .used) (s .args .len) (s .pre .0) (s .args .at) (s .args .k) (s .pre .1) (s .pre .2) kind last (omega arith) (c .before .insert-at .last .0) (c .before .insert-at .ensures)
+returns-2 c = let s = c .before .before .before .before in λ kind last. insert-done (s .pre .0) (s .args .at) (s .args .k) (s .pre .1) (s .pre .2) kind last (omega arith) (c .before .insert-at .last .0) (c .before .insert-at .ensures)
 
 pub insert-cell-spec : {M : Type 1} → statement M
 insert-cell-spec =

@@ -1,8 +1,6 @@
-use mathlib.Core.Path.{subst}
-use Prim.Native.Nat.{_<_}
-use Rattle.net_rows.proofs.ByKind.{is-alone, envelope-is, sent-as}
-use Rattle.types.specs.declared.Kind.{Kind}
-use Rattle.net_rows.specs.Views.{NetReady}
+-- The envelope is packed once. Each arm knows the kind, and what it calls promises the rules' send on that kind.
+-- Assumes nothing.
+use Rattle.net_rows.proofs.ByKind.{is-alone, ready-as, sent-as}
 use borrow.Author.Needs.{needs}
 use Rattle.net_rows.proofs.send.Statement.{statement}
 use Rattle.net_rows.proofs.send.Tie as tie
@@ -14,19 +12,25 @@ enum-told : tie.Need-enum-told
 enum-told c = search needs
 
 send-ordered-requires : tie.Need-send-ordered-requires
-send-ordered-requires c κs = let s = c .before .before .before .before in let h : s .args .e .dst .0 < 256 = search needs in (subst (λ (k : Kind). NetReady k (s .args .c .now) (s .args .used) (s .args .len)) (c .before .enum-told .given .1) (s .pre), is-alone (s .args .e) (c .before .before .before .cell-of .result) h (c .before .before .before .cell-of .ensures))
+send-ordered-requires c κs =
+    let s = c .before .before .before .before in
+    (ready-as (c .before .enum-told .given .1) (s .pre), is-alone (s .args .e) _ (c .before .before .before .cell-of .ensures))
 
 enum-told-2 : tie.Need-enum-told-2
 enum-told-2 c = search needs
 
 send-once-requires : tie.Need-send-once-requires
-send-once-requires c κs = let s = c .before .before .before .before in let h : s .args .e .dst .0 < 256 = search needs in (subst (λ (k : Kind). NetReady k (s .args .c .now) (s .args .used) (s .args .len)) (c .before .enum-told2 .given .1) (s .pre), is-alone (s .args .e) (c .before .before .before .cell-of .result) h (c .before .before .before .cell-of .ensures))
+send-once-requires c κs =
+    let s = c .before .before .before .before in
+    (ready-as (c .before .enum-told2 .given .1) (s .pre), is-alone (s .args .e) _ (c .before .before .before .cell-of .ensures))
 
 enum-told-3 : tie.Need-enum-told-3
 enum-told-3 c = search needs
 
 send-counted-requires : tie.Need-send-counted-requires
-send-counted-requires c κs = let s = c .before .before .before .before in let h : s .args .e .dst .0 < 256 = search needs in (subst (λ (k : Kind). NetReady k (s .args .c .now) (s .args .used) (s .args .len)) (c .before .enum-told3 .given .1) (s .pre), is-alone (s .args .e) (c .before .before .before .cell-of .result) h (c .before .before .before .cell-of .ensures))
+send-counted-requires c κs =
+    let s = c .before .before .before .before in
+    (ready-as (c .before .enum-told3 .given .1) (s .pre), is-alone (s .args .e) _ (c .before .before .before .cell-of .ensures))
 
 same-length : tie.Need-same-length
 same-length c = search needs
@@ -35,9 +39,8 @@ returns : tie.Need-returns
 returns c =
     let s = c .before .before .before .before .before .before in
     let w = c .before .before .before .before .before .cell-of in
-    let h : s .args .e .dst .0 < 256 = search needs in
     let k = c .before .before .before .enum-told .given .1 in
-    λ last. sent-as (s .args .c .now) (s .args .used) (s .args .len) (s .pre .laid) (w .result) (is-alone (s .args .e) (w .result) h (w .ensures)) (s .args .e) _ (s .args .kind) last (c .before .send-ordered .result) (c .before .send-ordered .last .0) (envelope-is (s .args .e) (w .result) h (w .ensures)) k (c .before .send-ordered .ensures last)
+    λ last. sent-as (s .args .e) (w .ensures) k last (c .before .send-ordered .ensures last)
 
 same-length-2 : tie.Need-same-length-2
 same-length-2 c = search needs
@@ -46,9 +49,8 @@ returns-2 : tie.Need-returns-2
 returns-2 c =
     let s = c .before .before .before .before .before .before in
     let w = c .before .before .before .before .before .cell-of in
-    let h : s .args .e .dst .0 < 256 = search needs in
     let k = c .before .before .before .enum-told2 .given .1 in
-    λ last. sent-as (s .args .c .now) (s .args .used) (s .args .len) (s .pre .laid) (w .result) (is-alone (s .args .e) (w .result) h (w .ensures)) (s .args .e) _ (s .args .kind) last (c .before .send-once .result) (c .before .send-once .last .0) (envelope-is (s .args .e) (w .result) h (w .ensures)) k (c .before .send-once .ensures last)
+    λ last. sent-as (s .args .e) (w .ensures) k last (c .before .send-once .ensures last)
 
 same-length-3 : tie.Need-same-length-3
 same-length-3 c = search needs
@@ -57,9 +59,8 @@ returns-3 : tie.Need-returns-3
 returns-3 c =
     let s = c .before .before .before .before .before .before in
     let w = c .before .before .before .before .before .cell-of in
-    let h : s .args .e .dst .0 < 256 = search needs in
     let k = c .before .before .before .enum-told3 .given .1 in
-    λ last. sent-as (s .args .c .now) (s .args .used) (s .args .len) (s .pre .laid) (w .result) (is-alone (s .args .e) (w .result) h (w .ensures)) (s .args .e) _ (s .args .kind) last (c .before .send-counted .result) (c .before .send-counted .last .0) (envelope-is (s .args .e) (w .result) h (w .ensures)) k (c .before .send-counted .ensures last)
+    λ last. sent-as (s .args .e) (w .ensures) k last (c .before .send-counted .ensures last)
 
 pub send-spec : {M : Type 1} → statement M
 send-spec =

@@ -8,10 +8,10 @@ use Rattle.net_rows.proofs.send_ordered.Statement.{statement}
 use Rattle.net_rows.proofs.send_ordered.Tie as tie
 
 halve-requires : tie.Need-halve-requires
-halve-requires c κs = let s = c .before in (s .pre .0 .laid .fit, once-flow (s .args .c .now) (s .args .used) (s .args .len) (s .pre .0 .laid) (s .args .k) (s .pre .1) (s .pre .0 .order))
+halve-requires c κs = let s = c .before in (s .pre .0 .laid .fit, once-flow (s .pre .0 .laid) (s .pre .1) (s .pre .0 .order))
 
 insert-cell-requires : tie.Need-insert-cell-requires
-insert-cell-requires c κs = let s = c .before .before .before in (s .pre .0 .laid, lead-fits (s .args .c .now) (s .args .used) (s .args .len) (s .pre .0 .laid) (passesOf UpToFlow (s .args .k)) (c .before .halve .result) (c .before .halve .ensures), s .pre .1)
+insert-cell-requires c κs = let s = c .before .before .before in (s .pre .0 .laid, lead-fits (s .pre .0 .laid) (passesOf UpToFlow (s .args .k)) (c .before .halve .result) (c .before .halve .ensures), s .pre .1)
 
 same-length : tie.Need-same-length
 same-length c = search needs
@@ -20,8 +20,8 @@ returns : tie.Need-returns
 returns c =
     let s = c .before .before .before .before .before in
     let w = c .before .before .before .halve in
-    λ last. sent-by (s .args .c .now) (s .args .used) (s .args .len) (s .pre .0 .laid) (s .args .k) (s .pre .1) Ordered last _
-    (put-flow (s .args .c .now) (s .args .used) (s .args .len) (s .pre .0 .laid) (s .args .k) (s .pre .1) (w .result) (flow-is (s .args .c .now) (s .args .used) (s .args .len) (s .pre .0 .laid) (s .args .k) (s .pre .1) (w .result) (w .ensures)))
+    λ last. sent-by (s .pre .0 .laid) (s .pre .1) Ordered last _
+    (put-flow (s .pre .0 .laid) (s .pre .1) (w .result) (flow-is (s .pre .0 .laid) (s .pre .1) (w .result) (w .ensures)))
     (c .before .insert-cell .result) (c .before .insert-cell .last .0) (c .before .insert-cell .ensures Ordered last)
 
 pub send-ordered-spec : {M : Type 1} → statement M

@@ -1,6 +1,6 @@
 use mathlib.Core.Path.{sym, _∙_}
 use Rattle.net_rows.proofs.Laws.{used-is}
-use Rattle.net_entries.proofs.Lookup.{told-at, told-free}
+use Rattle.net_rows.proofs.Lookup.{told-at, told-free}
 use Rattle.net_rows.specs.Views.{entryList}
 use Rattle.net_rows.specs.Parts.{envelopeIn}
 use borrow.Author.Needs.{needs}

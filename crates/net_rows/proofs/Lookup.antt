@@ -15,9 +15,10 @@ use Rattle.types.specs.declared.Envelope.{Envelope}
 use Rattle.types.specs.declared.Entry.{Entry}
 use Rattle.types.specs.Order.{cmpEnvelope, isLess, isEqual, same}
 use Rattle.types.proofs.Laws.{less-is, less-trans, not-up-to}
-use Rattle.net_entries.specs.declared.Found.the-variants.{At, Free}
-use Rattle.net_entries.specs.Search.{zeroEntry, stands, lookUp}
-use Rattle.net_entries.proofs.Tests.{any-yes, any-no, first-at, first-missing}
+use Rattle.net_rows.specs.declared.Found.the-variants.{At, Free}
+use Rattle.net_cells.specs.Cells.{zeroEntry}
+use Rattle.net_slots.proofs.Tests.{any-yes, any-no, first-at, first-missing}
+use Rattle.net_rows.specs.Search.{stands, lookUp}
 
 -- ---- equal, before, after
 before-other : (e f : Envelope) → isLess (cmpEnvelope e f) ≡ true → same e f ≡ false

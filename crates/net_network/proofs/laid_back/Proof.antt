@@ -1,0 +1,12 @@
+use borrow.Author.Needs.{needs}
+use Rattle.net_network.proofs.laid_back.Statement.{statement}
+use Rattle.net_network.proofs.laid_back.Tie as tie
+
+entries-of-requires : tie.Need-entries-of-requires
+entries-of-requires c κs = search needs
+
+returns : tie.Need-returns
+returns c = rw (c .entries-of .ensures)
+
+pub laid-back-spec : {M : Type 1} → statement M
+laid-back-spec = tie.close (tie.spec entries-of-requires returns)
