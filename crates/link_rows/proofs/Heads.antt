@@ -35,17 +35,21 @@ head-same w v p e1 e2 e3 fit = record {
 }
 
 -- ---- one record more
-module _ (w v : List ℕ) (p : List (List ℕ)) (q : List ℕ) (room : getD w 1 0 < length p) (fit : HeadLaid w p) where
-  word-more : (k most : ℕ) → getD q k 0 < most → ((i : ℕ) → i < getD w 1 0 → getD (getD p i []) k 0 < most)
-      → (i : ℕ) → i < getD w 1 0 + 1 → getD (getD (set p (getD w 1 0) q) i []) k 0 < most
-  word-more k most h old = below-more (λ (i : ℕ). getD (getD (set p (getD w 1 0) q) i []) k 0 < most) (getD w 1 0)
-      (λ i l. let z = ap (λ (r : List ℕ). getD r k 0) (getD-set-other p (getD w 1 0) i q [] (λ e. omega arith)) in let y = old i l in omega arith)
-      (let z = ap (λ (r : List ℕ). getD r k 0) (getD-set-same p (getD w 1 0) q [] room) in omega arith)
+module _ (p : List (List ℕ)) (n : ℕ) (q : List ℕ) (room : n < length p) where
+  word-more : (k most : ℕ) → getD q k 0 < most → ((i : ℕ) → i < n → getD (getD p i []) k 0 < most)
+      → (i : ℕ) → i < n + 1 → getD (getD (set p n q) i []) k 0 < most
+  word-more k most h old = below-more (λ (i : ℕ). getD (getD (set p n q) i []) k 0 < most) n
+      (λ i l. let z = ap (λ (r : List ℕ). getD r k 0) (getD-set-other p n i q [] (λ e. omega arith)) in let y = old i l in omega arith)
+      (let z = ap (λ (r : List ℕ). getD r k 0) (getD-set-same p n q [] room) in omega arith)
 
+  pub sendable-more : Sendable p n → getD q 1 0 < 256 → getD q 2 0 < 4294967296 → Sendable (set p n q) (n + 1)
+  sendable-more fit a b = record { dst = word-more 1 256 a (fit .dst); payload = word-more 2 4294967296 b (fit .payload) }
+
+module _ (w v : List ℕ) (p : List (List ℕ)) (q : List ℕ) (room : getD w 1 0 < length p) (fit : HeadLaid w p) where
   pub head-more : getD q 1 0 < 256 → getD q 2 0 < 4294967296 → getD v 1 0 ≡ getD w 1 0 + 1 → getD v 2 0 ≡ getD w 2 0 → getD v 3 0 ≡ getD w 3 0
       → HeadLaid v (set p (getD w 1 0) q)
   head-more a b e1 e2 e3 = record {
-    sendable = rw e1 (record { dst = word-more 1 256 a (fit .sendable .dst); payload = word-more 2 4294967296 b (fit .sendable .payload) });
+    sendable = rw e1 (sendable-more p (getD w 1 0) q room (fit .sendable) a b);
     saves = let z = fit .saves in omega arith;
     value = let z = fit .value in omega arith;
   }

@@ -123,18 +123,23 @@ settled-low change w p w' p' laid to few r1 r2 = record {
   };
 }
 
+-- The pending records that are counted are the same ones.
+pub same-records : (w : List ℕ) (p q : List (List ℕ)) → take (getD w 1 0) q ≡ take (getD w 1 0) p → durableIn w q ≡ durableIn w p
+unfolding durableIn
+same-records w p q e = λ j. record {
+  next = record { 0 = getD w 0 0 };
+  pending = map pendingIn (e j);
+  taken = map numberIn (take (getD w 4 0) (drop 8 w));
+  inner = storageIn (getD w 2 0) (getD w 3 0);
+}
+
+pub same-head : (w : List ℕ) (p q : List (List ℕ)) → take (getD w 1 0) q ≡ take (getD w 1 0) p → HeadLaid w p → HeadLaid w q
+same-head w p q e fit = record { sendable = sendable-same p q (getD w 1 0) e (fit .sendable); saves = fit .saves; value = fit .value }
+
 -- What is stored is the durable part.
 pub stored-durable : (w : List ℕ) (p : List (List ℕ)) (k : List ℕ) (q : List (List ℕ)) → Kept w p k q → durableIn k q ≡ durableIn w p
-unfolding durableIn
 stored-durable w p k q kept =
-    let e = kept .records in
-    ap (λ (l : List ℕ). durableIn l q) (kept .row) ∙ aside w 5 1 (omega arith) (omega arith) q
-    ∙ (λ j. record {
-      next = record { 0 = getD w 0 0 };
-      pending = map pendingIn (e j);
-      taken = map numberIn (take (getD w 4 0) (drop 8 w));
-      inner = storageIn (getD w 2 0) (getD w 3 0);
-    })
+    ap (λ (l : List ℕ). durableIn l q) (kept .row) ∙ aside w 5 1 (omega arith) (omega arith) q ∙ same-records w p q (kept .records)
 
 -- ---- as an actor
 module _ (rs : List Rule) (d : Durable) (t s : ℕ) (w w' : List ℕ) (p' : List (List ℕ)) (set-to : Settled d t s w w' p') where
@@ -174,12 +179,10 @@ stored-laid w p k q kept laid =
     let e7 = same 7 (λ z. omega arith) ∙ sym (tail-at w 3) in
     let y6 = laid .tail .timers in
     let y7 = laid .tail .state in
-    let fit = laid .head in
     rw (kept .row) (record {
       room = length-set w 5 1 ∙ laid .room;
       places = kept .places;
       pending = let z = same 1 (λ z. omega arith) in let y = laid .pending in omega arith;
-      head = aside-head w 5 1 (omega arith) (omega arith) q
-          (record { sendable = sendable-same p q (getD w 1 0) (kept .records) (fit .sendable); saves = fit .saves; value = fit .value });
+      head = aside-head w 5 1 (omega arith) (omega arith) q (same-head w p q (kept .records) (laid .head));
       tail = tail-marks w (set w 5 1) (laid .tail) (same 4 (λ z. omega arith)) (omega arith) (omega arith) (λ i. same (8 + i) (λ z. omega arith));
     })
