@@ -1,0 +1,57 @@
+-- A field that is cut out of the numbers that its bytes make.
+-- Assumes nothing.
+use Prim.Native.Nat.{ℕ, _+_, _-_, _*_, _/_, _%_, _^_, _≤_, _<_}
+use native.Mathlib.Nat.{add-mul, mul-assoc}
+use native.Mathlib.Omega.{arith}
+use mathlib.Core.Path.{_≡_, sym, ap, ap₂, _∙_}
+use mathlib.Core.List.{List}
+use lib.ListN.{getD}
+use lib.Pow.{pow-add, shl-lt, high, low}
+use Rattle.layout.specs.Bits.{fieldAt}
+use Rattle.layout.proofs.Laws.{field-lt, field-add, field-in-byte}
+
+-- a byte
+pub byte-is : (xs : List ℕ) (at i : ℕ) → at ≡ 8 * i → getD xs i 0 < 256 → getD xs i 0 ≡ fieldAt xs at 8
+byte-is xs at i e h =
+    let q : at / 8 ≡ i = omega arith in
+    let w = field-in-byte xs at 8 0 (omega arith) in
+    let z : getD xs (at / 8) 0 / 2 ^ 0 % 2 ^ 8 ≡ getD xs i 0 = rw q (omega arith) in
+    sym (w ∙ z)
+
+-- two fields side by side
+pub joined
+    : (xs : List ℕ) (at next k a b : ℕ) → next ≡ at + k → a ≡ fieldAt xs at k → b ≡ fieldAt xs next k → a * 2 ^ k + b ≡ fieldAt xs at (k + k)
+joined xs at next k a b n p q = rw (p, q, n) (sym (field-add xs at k k))
+
+-- the first k of k + m bits, and the last m of them moved to the front
+module _ (xs : List ℕ) (at k m : ℕ) {w : ℕ} (e : w ≡ fieldAt xs at (k + m)) where
+  pub front : w / 2 ^ m ≡ fieldAt xs at k
+  front = rw (e, field-add xs at k m) (high (fieldAt xs at k) m (field-lt xs (at + k) m))
+
+  pub moved : w * 2 ^ k % 2 ^ (m + k) ≡ fieldAt xs (at + k) m * 2 ^ k
+  moved =
+      let a = fieldAt xs at k in
+      let b = fieldAt xs (at + k) m in
+      rw (e, field-add xs at k m, add-mul (a * 2 ^ m) b (2 ^ k), mul-assoc a (2 ^ m) (2 ^ k), ← pow-add 2 m k)
+      (low a (m + k) (shl-lt m k (field-lt xs (at + k) m)))
+
+-- the 64 bits from bit k on of a word and the n bits behind it
+pub window-is
+    : (xs : List ℕ) (at k n w b : ℕ) → k ≤ n → k ≤ 64 → w ≡ fieldAt xs at 64 → b ≡ fieldAt xs (at + 64) n
+    → w * 2 ^ k % 2 ^ 64 + b / 2 ^ (n - k) ≡ fieldAt xs (at + k) 64
+window-is xs at k n w b h g e f =
+    let m = 64 - k in
+    let p : 64 ≡ k + m = omega arith in
+    let q : m + k ≡ 64 = omega arith in
+    let r : n ≡ k + (n - k) = omega arith in
+    let x : w * 2 ^ k % 2 ^ 64 ≡ fieldAt xs (at + k) m * 2 ^ k = ap (λ (j : ℕ). w * 2 ^ k % 2 ^ j) (sym q) ∙ moved xs at k m (e ∙ ap (fieldAt xs at) p) in
+    let y : b / 2 ^ (n - k) ≡ fieldAt xs (at + 64) k = front xs (at + 64) k (n - k) (f ∙ ap (fieldAt xs (at + 64)) r) in
+    let z : at + 64 ≡ at + k + m = omega arith in
+    ap₂ (λ (i j : ℕ). i + j) x (y ∙ ap (λ (i : ℕ). fieldAt xs i k) z) ∙ sym (field-add xs (at + k) m k) ∙ ap (fieldAt xs (at + k)) q
+
+-- a word and the byte behind it
+pub nine-is
+    : (xs : List ℕ) (i k w : ℕ) → k ≤ 8 → getD xs (i + 8) 0 < 256 → w ≡ fieldAt xs (8 * i) 64
+    → w * 2 ^ k % 2 ^ 64 + getD xs (i + 8) 0 / 2 ^ (8 - k) ≡ fieldAt xs (8 * i + k) 64
+nine-is xs i k w h g e =
+    window-is xs (8 * i) k 8 w (getD xs (i + 8) 0) h (omega arith) e (byte-is xs (8 * i + 64) (i + 8) (omega arith) g)
