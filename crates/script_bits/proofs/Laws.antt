@@ -1,14 +1,16 @@
 -- A field that is cut out of the numbers that its bytes make.
 -- Assumes nothing.
 use Prim.Native.Nat.{ℕ, _+_, _-_, _*_, _/_, _%_, _^_, _≤_, _<_}
-use native.Mathlib.Nat.{add-mul, mul-assoc}
+use native.Mathlib.Nat.{add-mul, mul-assoc, mod-lt, mul-mod-left, add-zero, add-comm}
 use native.Mathlib.Omega.{arith}
-use mathlib.Core.Path.{_≡_, sym, ap, ap₂, _∙_}
+use mathlib.Core.Path.{_≡_, sym, ap, ap₂, subst, _∙_}
 use mathlib.Core.List.{List}
 use lib.ListN.{getD}
-use lib.Pow.{pow-add, shl-lt, high, low}
+use lib.Arith.{digits-lt}
+use lib.Pow.{pow-pos, pow-add, shl-lt, shr-lt, shl-shr, shr-shr, high, low, mod-pow-add}
 use Rattle.layout.specs.Bits.{fieldAt}
 use Rattle.layout.proofs.Laws.{field-lt, field-add, field-in-byte}
+use Rattle.script_bits.specs.Front.{Front}
 
 -- a byte
 pub byte-is : (xs : List ℕ) (at i : ℕ) → at ≡ 8 * i → getD xs i 0 < 256 → getD xs i 0 ≡ fieldAt xs at 8
@@ -55,3 +57,45 @@ pub nine-is
     → w * 2 ^ k % 2 ^ 64 + getD xs (i + 8) 0 / 2 ^ (8 - k) ≡ fieldAt xs (8 * i + k) 64
 nine-is xs i k w h g e =
     window-is xs (8 * i) k 8 w (getD xs (i + 8) 0) h (omega arith) e (byte-is xs (8 * i + 64) (i + 8) (omega arith) g)
+
+-- its sum fits a word, whatever the words are
+window-fits : (k w v : ℕ) → k ≤ 64 → v < 2 ^ 64 → w * 2 ^ k % 2 ^ 64 + v / 2 ^ (64 - k) < 2 ^ 64
+window-fits k w v h g =
+    let m = 64 - k in
+    let q : m + k ≡ 64 = omega arith in
+    let n = w * 2 ^ k in
+    let x : n % 2 ^ (m + k) ≡ n / 2 ^ k % 2 ^ m * 2 ^ k + n % 2 ^ k = mod-pow-add n m k in
+    let y : n / 2 ^ k % 2 ^ m * 2 ^ k + n % 2 ^ k ≡ n / 2 ^ k % 2 ^ m * 2 ^ k = rw (mul-mod-left w (2 ^ k)) (add-zero _) in
+    let b : v / 2 ^ m < 2 ^ k = shr-lt k m (rw (add-comm k m, q) g) in
+    let z : n / 2 ^ k % 2 ^ m * 2 ^ k + v / 2 ^ m < 2 ^ (m + k) = rw (pow-add 2 m k) (digits-lt (mod-lt (n / 2 ^ k) (pow-pos m)) b) in
+    let e : n % 2 ^ 64 ≡ n / 2 ^ k % 2 ^ m * 2 ^ k = ap (λ (j : ℕ). n % 2 ^ j) (sym q) ∙ x ∙ y in
+    rw e (subst (λ (j : ℕ). n / 2 ^ k % 2 ^ m * 2 ^ k + v / 2 ^ m < 2 ^ j) q z)
+
+-- a field of the second word
+pub second-is
+    : (xs : List ℕ) (k width v : ℕ) → k + width ≤ 64 → v ≡ fieldAt xs 64 64 → v * 2 ^ k % 2 ^ 64 / 2 ^ (64 - width) ≡ fieldAt xs (64 + k) width
+second-is xs k width v h e =
+    let m = 64 - k in
+    let n = 64 - k - width in
+    let p : 64 ≡ k + m = omega arith in
+    let q : m + k ≡ 64 = omega arith in
+    let r : m ≡ width + n = omega arith in
+    let s : 64 - width ≡ k + n = omega arith in
+    let b = fieldAt xs (64 + k) m in
+    let x : v * 2 ^ k % 2 ^ 64 ≡ b * 2 ^ k = ap (λ (j : ℕ). v * 2 ^ k % 2 ^ j) (sym q) ∙ moved xs 64 k m (e ∙ ap (fieldAt xs 64) p) in
+    rw (x, s, ← shr-shr (b * 2 ^ k) k n, shl-shr b k) (front xs (64 + k) width n (ap (fieldAt xs (64 + k)) r))
+
+-- out of two words: the shift of 64 - k is in two parts, each of which is less than 64
+module _ (k w v : ℕ) (h : k < 64) where
+  halved : v / 2 / 2 ^ (63 - k) ≡ v / 2 ^ (64 - k)
+  halved =
+      let e : 1 + (63 - k) ≡ 64 - k = omega arith in shr-shr v 1 (63 - k) ∙ ap (λ (j : ℕ). v / 2 ^ j) e
+
+  pub across-fits : v < 2 ^ 64 → w * 2 ^ k % 2 ^ 64 + v / 2 / 2 ^ (63 - k) < 2 ^ 64
+  across-fits g = rw halved (window-fits k w v (omega arith) g)
+
+  pub across-is : (xs : List ℕ) → Front xs w v → w * 2 ^ k % 2 ^ 64 + v / 2 / 2 ^ (63 - k) ≡ fieldAt xs k 64
+  across-is xs f =
+      let z : 0 + k ≡ k = omega arith in
+      ap (λ (j : ℕ). w * 2 ^ k % 2 ^ 64 + j) halved ∙ window-is xs 0 k 64 w v (omega arith) (omega arith) (f .first) (f .second)
+      ∙ ap (λ (j : ℕ). fieldAt xs j 64) z
