@@ -1,15 +1,15 @@
 -- A field that is cut out of the numbers that its bytes make.
 -- Assumes nothing.
 use Prim.Native.Nat.{ℕ, _+_, _-_, _*_, _/_, _%_, _^_, _≤_, _<_}
-use native.Mathlib.Nat.{add-mul, mul-assoc, mod-lt, mul-mod-left, add-zero, add-comm}
+use native.Mathlib.Nat.{add-mul, mul-assoc, mod-lt, mul-mod-left, add-zero, add-comm, zero-div, lt-of-lt-of-le}
 use native.Mathlib.Omega.{arith}
 use mathlib.Core.Path.{_≡_, sym, ap, ap₂, subst, _∙_}
 use mathlib.Core.List.{List}
-use lib.ListN.{getD}
+use lib.ListN.{length, getD}
 use lib.Arith.{digits-lt}
-use lib.Pow.{pow-pos, pow-add, shl-lt, shr-lt, shl-shr, shr-shr, high, low, mod-pow-add}
+use lib.Pow.{pow-pos, pow-mono, pow-add, shl-lt, shl-exact, shr-lt, shl-shr, shr-shr, high, low, mod-pow-add}
 use Rattle.layout.specs.Bits.{fieldAt}
-use Rattle.layout.proofs.Laws.{field-lt, field-add, field-in-byte}
+use Rattle.layout.proofs.Laws.{field-lt, field-add, field-in-byte, field-past}
 use Rattle.script_bits.specs.Front.{Front}
 
 -- a byte
@@ -20,10 +20,41 @@ byte-is xs at i e h =
     let z : getD xs (at / 8) 0 / 2 ^ 0 % 2 ^ 8 ≡ getD xs i 0 = rw q (omega arith) in
     sym (w ∙ z)
 
--- two fields side by side
-pub joined
-    : (xs : List ℕ) (at next k a b : ℕ) → next ≡ at + k → a ≡ fieldAt xs at k → b ≡ fieldAt xs next k → a * 2 ^ k + b ≡ fieldAt xs at (k + k)
-joined xs at next k a b n p q = rw (p, q, n) (sym (field-add xs at k k))
+-- two fields side by side, each moved up by itself, are both moved up
+pub raised
+    : (xs : List ℕ) (at next j k a b : ℕ) → next ≡ at + j → a ≡ fieldAt xs at j * 2 ^ (k + j) → b ≡ fieldAt xs next j * 2 ^ k
+    → a + b ≡ fieldAt xs at (j + j) * 2 ^ k
+raised xs at next j k a b n p q =
+    let x = fieldAt xs at j in
+    let y = fieldAt xs (at + j) j in
+    let e : x * 2 ^ (k + j) ≡ x * 2 ^ j * 2 ^ k = rw (add-comm k j, pow-add 2 j k) (sym (mul-assoc x (2 ^ j) (2 ^ k))) in
+    rw (p, q, n, e, ← add-mul (x * 2 ^ j) y (2 ^ k), ← field-add xs at j j)
+
+-- a field that is moved up fits, and nothing is moved out
+pub raised-fits : (xs : List ℕ) (at j k : ℕ) → j + k ≤ 64 → fieldAt xs at j * 2 ^ k < 2 ^ 64
+raised-fits xs at j k h = lt-of-lt-of-le (shl-lt j k (field-lt xs at j)) (pow-mono h)
+
+pub byte-raised
+    : (xs : List ℕ) (at i k : ℕ) → at ≡ 8 * i → getD xs i 0 < 256 → k ≤ 56 → getD xs i 0 * 2 ^ k % 2 ^ 64 ≡ fieldAt xs at 8 * 2 ^ k
+byte-raised xs at i k e h g = shl-exact 8 k 64 h (omega arith) ∙ ap (λ (x : ℕ). x * 2 ^ k) (byte-is xs at i e h)
+
+-- ---- the last bytes, of which those from byte i up to byte j were read
+module _ (xs : List ℕ) (i j n : ℕ) (g : i ≤ j) (e : n ≡ fieldAt xs (8 * i) (8 * (j - i))) where
+  pub byte-more : getD xs j 0 < 256 → n * 256 + getD xs j 0 ≡ fieldAt xs (8 * i) (8 * (j + 1 - i))
+  byte-more h =
+      let m = 8 * (j - i) in
+      let p : 8 * (j + 1 - i) ≡ m + 8 = omega arith in
+      rw (p, field-add xs (8 * i) m 8, ← byte-is xs (8 * i + m) j (omega arith) h, e)
+
+  pub zeros-behind : j ≤ i + 8 → length xs ≤ j → n * 2 ^ (64 - 8 * (j - i)) % 2 ^ 64 ≡ fieldAt xs (8 * i) 64
+  zeros-behind h l =
+      let m = 8 * (j - i) in
+      let r = 64 - m in
+      let q : m + r ≡ 64 = omega arith in
+      let z : fieldAt xs (8 * i + m) r ≡ 0 = field-past xs (8 * i + m) r (omega arith) in
+      let f : n < 2 ^ m = rw e (field-lt xs (8 * i) m) in
+      shl-exact m r 64 f (omega arith) ∙ ap (λ (x : ℕ). x * 2 ^ r) e
+      ∙ sym (ap (fieldAt xs (8 * i)) (sym q) ∙ field-add xs (8 * i) m r ∙ ap (λ (x : ℕ). fieldAt xs (8 * i) m * 2 ^ r + x) z ∙ add-zero _)
 
 -- the first k of k + m bits, and the last m of them moved to the front
 module _ (xs : List ℕ) (at k m : ℕ) {w : ℕ} (e : w ≡ fieldAt xs at (k + m)) where
@@ -51,12 +82,22 @@ window-is xs at k n w b h g e f =
     let z : at + 64 ≡ at + k + m = omega arith in
     ap₂ (λ (i j : ℕ). i + j) x (y ∙ ap (λ (i : ℕ). fieldAt xs i k) z) ∙ sym (field-add xs (at + k) m k) ∙ ap (fieldAt xs (at + k)) q
 
--- a word and the byte behind it
-pub nine-is
-    : (xs : List ℕ) (i k w : ℕ) → k ≤ 8 → getD xs (i + 8) 0 < 256 → w ≡ fieldAt xs (8 * i) 64
-    → w * 2 ^ k % 2 ^ 64 + getD xs (i + 8) 0 / 2 ^ (8 - k) ≡ fieldAt xs (8 * i + k) 64
-nine-is xs i k w h g e =
-    window-is xs (8 * i) k 8 w (getD xs (i + 8) 0) h (omega arith) e (byte-is xs (8 * i + 64) (i + 8) (omega arith) g)
+-- a word and the byte behind it, or nothing
+module _ (xs : List ℕ) (at w : ℕ) (e : w ≡ fieldAt xs (8 * (at / 8)) 64) where
+  pub nine-is : getD xs (at / 8 + 8) 0 < 256 → w * 2 ^ (at % 8) % 2 ^ 64 + getD xs (at / 8 + 8) 0 / 2 ^ (8 - at % 8) ≡ fieldAt xs at 64
+  nine-is g =
+      let i = at / 8 in
+      let p : 8 * i + at % 8 ≡ at = omega arith in
+      window-is xs (8 * i) (at % 8) 8 w (getD xs (i + 8) 0) (omega arith) (omega arith) e (byte-is xs (8 * i + 64) (i + 8) (omega arith) g)
+      ∙ ap (λ (j : ℕ). fieldAt xs j 64) p
+
+  pub eight-is : length xs ≤ at / 8 + 8 → w * 2 ^ (at % 8) % 2 ^ 64 ≡ fieldAt xs at 64
+  eight-is l =
+      let i = at / 8 in
+      let p : 8 * i + at % 8 ≡ at = omega arith in
+      let z : 0 ≡ fieldAt xs (8 * i + 64) 8 = sym (field-past xs (8 * i + 64) 8 (omega arith)) in
+      let q : w * 2 ^ (at % 8) % 2 ^ 64 + 0 / 2 ^ (8 - at % 8) ≡ w * 2 ^ (at % 8) % 2 ^ 64 = rw (zero-div (2 ^ (8 - at % 8))) (add-zero _) in
+      sym q ∙ window-is xs (8 * i) (at % 8) 8 w 0 (omega arith) (omega arith) e z ∙ ap (λ (j : ℕ). fieldAt xs j 64) p
 
 -- its sum fits a word, whatever the words are
 window-fits : (k w v : ℕ) → k ≤ 64 → v < 2 ^ 64 → w * 2 ^ k % 2 ^ 64 + v / 2 ^ (64 - k) < 2 ^ 64
@@ -94,8 +135,12 @@ module _ (k w v : ℕ) (h : k < 64) where
   pub across-fits : v < 2 ^ 64 → w * 2 ^ k % 2 ^ 64 + v / 2 / 2 ^ (63 - k) < 2 ^ 64
   across-fits g = rw halved (window-fits k w v (omega arith) g)
 
-  pub across-is : (xs : List ℕ) → Front xs w v → w * 2 ^ k % 2 ^ 64 + v / 2 / 2 ^ (63 - k) ≡ fieldAt xs k 64
+  across-is : (xs : List ℕ) → Front xs w v → w * 2 ^ k % 2 ^ 64 + v / 2 / 2 ^ (63 - k) ≡ fieldAt xs k 64
   across-is xs f =
       let z : 0 + k ≡ k = omega arith in
       ap (λ (j : ℕ). w * 2 ^ k % 2 ^ 64 + j) halved ∙ window-is xs 0 k 64 w v (omega arith) (omega arith) (f .first) (f .second)
       ∙ ap (λ (j : ℕ). fieldAt xs j 64) z
+
+  pub across-front : (xs : List ℕ) (n : ℕ) → Front xs w v → n ≤ 64 → (w * 2 ^ k % 2 ^ 64 + v / 2 / 2 ^ (63 - k)) / 2 ^ (64 - n) ≡ fieldAt xs k n
+  across-front xs n f g =
+      let q : 64 ≡ n + (64 - n) = omega arith in front xs k n (64 - n) (across-is xs f ∙ ap (fieldAt xs k) q)

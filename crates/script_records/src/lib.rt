@@ -8,6 +8,7 @@ use script_bits::field;
 use script_bits::field8;
 use script_bits::field32;
 use script_bits::whole;
+use script_bits::word;
 use types::Action;
 use types::Envelope;
 use types::Format;
@@ -415,19 +416,16 @@ fn message_part(w: u64, v: u64, at: usize, f: Format) -> MessagePart
     let tag = cut8(w, v, at, f.tag);
     let b = at + f.tag;
     let after = b + f.number;
+    let number = cut(w, v, b, f.number);
     match tag {
         0 => {
-            let number = cut(w, v, b, f.number);
             let payload = cut32(w, v, after, 32);
             MessagePart::Found(
                 Message::Deliver(Number(number), Payload(payload)),
                 after + 32,
             )
         }
-        1 => {
-            let number = cut(w, v, b, f.number);
-            MessagePart::Found(Message::Ack(Number(number)), after)
-        }
+        1 => MessagePart::Found(Message::Ack(Number(number)), after),
         _ => MessagePart::Stuck,
     }
 }
@@ -459,8 +457,8 @@ pub fn read_envelope(script: &[u8], at: usize, f: Format) -> EnvelopeRead
     ensures says { λ r. ⌜ envelopeSays r ≡ readingSays (one (envelopeForm f) (drop at (now (script .entry))) at) ⌝ }
 {
     let s = from(script, at);
-    let w = field(s, 0, 64);
-    let v = field(s, 64, 64);
+    let w = word(s, 0);
+    let v = word(s, 8);
     let x = envelope_part(w, v, 0, f);
     match x {
         EnvelopePart::Found(e, used) => {
@@ -526,8 +524,8 @@ pub fn read_action(script: &[u8], at: usize, f: Format) -> ActionRead
     ensures says { λ r. ⌜ actionSays r ≡ readingSays (one (actionForm f) (drop at (now (script .entry))) at) ⌝ }
 {
     let s = from(script, at);
-    let w = field(s, 0, 64);
-    let v = field(s, 64, 64);
+    let w = word(s, 0);
+    let v = word(s, 8);
     let x = action_part(w, v, f);
     match x {
         ActionPart::Act(a, used) => {

@@ -22,18 +22,15 @@ cut-requires c κs = search needs
 cut32-requires : tie.Need-cut32-requires
 cut32-requires c κs = search needs
 
-add-t15 : tie.Need-add-t15
-add-t15 c = search needs
-
-cut-requires-2 : tie.Need-cut-requires-2
-cut-requires-2 c κs = search needs
+add-t14 : tie.Need-add-t14
+add-t14 c = search needs
 
 returns : tie.Need-returns
 returns c =
     let a = c .before .before .before .before .before .before .args in (
       λ xs h. sym (ap messagePart
           (deliver-at xs (a .f) (a .at) refl refl (omega (arith, c .before .before .before .before .before .cut8 .ensures xs h))
-          (c .before .cut .ensures .0 xs h)
+          (c .before .before .cut .ensures .0 xs h)
           (c .cut32 .ensures xs h) refl)),
       search needs,
     )
@@ -42,14 +39,14 @@ returns-2 : tie.Need-returns-2
 returns-2 c =
     let a = c .before .before .before .before .before .args in (
       λ xs h. sym (ap messagePart
-          (ack-at xs (a .f) (a .at) refl refl (omega (arith, c .before .before .before .before .cut8 .ensures xs h)) (c .cut2 .ensures .0 xs h))),
+          (ack-at xs (a .f) (a .at) refl refl (omega (arith, c .before .before .before .before .cut8 .ensures xs h)) (c .before .cut .ensures .0 xs h))),
       search needs,
     )
 
 returns-3 : tie.Need-returns-3
 returns-3 c =
-    let a = c .before .before .before .before .args in
-    (λ xs h. sym (ap messagePart (no-message xs (a .f) (a .at) (omega (arith, c .before .before .before .cut8 .ensures xs h)))), search needs)
+    let a = c .before .before .before .before .before .args in
+    (λ xs h. sym (ap messagePart (no-message xs (a .f) (a .at) (omega (arith, c .before .before .before .before .cut8 .ensures xs h)))), search needs)
 
 pub message-part-spec : {M : Type 1} → statement M
 message-part-spec =
@@ -60,8 +57,7 @@ message-part-spec =
     add-after
     cut-requires
     cut32-requires
-    add-t15
-    cut-requires-2
+    add-t14
     returns
     returns-2
     returns-3)

@@ -14,11 +14,11 @@ use Rattle.script_records.proofs.read_action.Tie as tie
 from-requires : tie.Need-from-requires
 from-requires c κs = search needs
 
-field-requires : tie.Need-field-requires
-field-requires c κs = search needs
+word-requires : tie.Need-word-requires
+word-requires c κs = search needs
 
-field-requires-2 : tie.Need-field-requires-2
-field-requires-2 c κs = search needs
+word-requires-2 : tie.Need-word-requires-2
+word-requires-2 c κs = search needs
 
 action-part-requires : tie.Need-action-part-requires
 action-part-requires c κs = search needs
@@ -31,7 +31,7 @@ end-in-requires c κs =
     let r = c .before .before .before in
     let a = r .before .before .before .before .before .args in (
       omega (arith, r .action-part .ensures .1, ap actionEnd (c .before .x .given .1)),
-      stand (a .script .now) (a .at) (r .before .before .before .from .ensures) (r .before .before .field .ensures) (r .before .field2 .ensures),
+      stand (a .script .now) (a .at) (r .before .before .before .from .ensures) (r .before .before .word .ensures) (r .before .word2 .ensures),
     )
 
 enum-known-end : tie.Need-enum-known-end
@@ -48,7 +48,7 @@ end-in-requires-2 c κs =
     let r = c .before .before .before in
     let a = r .before .before .before .before .before .args in (
       omega (arith, r .action-part .ensures .1, ap actionEnd (c .before .x2 .given .1)),
-      stand (a .script .now) (a .at) (r .before .before .before .from .ensures) (r .before .before .field .ensures) (r .before .field2 .ensures),
+      stand (a .script .now) (a .at) (r .before .before .before .from .ensures) (r .before .before .word .ensures) (r .before .word2 .ensures),
     )
 
 enum-known-end-2 : tie.Need-enum-known-end-2
@@ -65,7 +65,7 @@ returns c =
     let r = c .before .before .before .before .before .before .before in
     let a = r .before .before .before .before .before .args in
     let xs = drop (a .at) (a .script .now) in
-    let h = stand (a .script .now) (a .at) (r .before .before .before .from .ensures) (r .before .before .field .ensures) (r .before .field2 .ensures) in
+    let h = stand (a .script .now) (a .at) (r .before .before .before .from .ensures) (r .before .before .word .ensures) (r .before .word2 .ensures) in
     action-both (one (actionForm (a .f)) xs (a .at))
     (tells-at actionRead (actionForm (a .f)) (a .script .now) (a .at) refl
     (action-found (sym (c .before .before .before .before .before .x .given .1) ∙ r .action-part .ensures .0 xs h))
@@ -76,7 +76,7 @@ returns-2 c =
     let r = c .before .before .before .before .before .before in
     let a = r .before .before .before .before .before .args in
     let xs = drop (a .at) (a .script .now) in
-    let h = stand (a .script .now) (a .at) (r .before .before .before .from .ensures) (r .before .before .field .ensures) (r .before .field2 .ensures) in
+    let h = stand (a .script .now) (a .at) (r .before .before .before .from .ensures) (r .before .before .word .ensures) (r .before .word2 .ensures) in
     action-both (one (actionForm (a .f)) xs (a .at))
     (tells-not actionRead (actionForm (a .f)) (a .script .now) (a .at) refl
     (action-found (sym (c .before .before .before .before .x .given .1) ∙ r .action-part .ensures .0 xs h))
@@ -87,7 +87,7 @@ returns-3 c =
     let r = c .before .before .before .before .before .before .before in
     let a = r .before .before .before .before .before .args in
     let xs = drop (a .at) (a .script .now) in
-    let h = stand (a .script .now) (a .at) (r .before .before .before .from .ensures) (r .before .before .field .ensures) (r .before .field2 .ensures) in
+    let h = stand (a .script .now) (a .at) (r .before .before .before .from .ensures) (r .before .before .word .ensures) (r .before .word2 .ensures) in
     action-both (one (actionForm (a .f)) xs (a .at))
     (tells-at actionRead (actionForm (a .f)) (a .script .now) (a .at) refl
     (action-ended (sym (c .before .before .before .before .before .x2 .given .1) ∙ r .action-part .ensures .0 xs h))
@@ -98,7 +98,7 @@ returns-4 c =
     let r = c .before .before .before .before .before .before in
     let a = r .before .before .before .before .before .args in
     let xs = drop (a .at) (a .script .now) in
-    let h = stand (a .script .now) (a .at) (r .before .before .before .from .ensures) (r .before .before .field .ensures) (r .before .field2 .ensures) in
+    let h = stand (a .script .now) (a .at) (r .before .before .before .from .ensures) (r .before .before .word .ensures) (r .before .word2 .ensures) in
     action-both (one (actionForm (a .f)) xs (a .at))
     (tells-not actionRead (actionForm (a .f)) (a .script .now) (a .at) refl
     (action-ended (sym (c .before .before .before .before .x2 .given .1) ∙ r .action-part .ensures .0 xs h))
@@ -109,7 +109,7 @@ returns-5 c =
     let r = c .before .before in
     let a = r .before .before .before .before .before .args in
     let xs = drop (a .at) (a .script .now) in
-    let h = stand (a .script .now) (a .at) (r .before .before .before .from .ensures) (r .before .before .field .ensures) (r .before .field2 .ensures) in
+    let h = stand (a .script .now) (a .at) (r .before .before .before .from .ensures) (r .before .before .word .ensures) (r .before .word2 .ensures) in
     action-both (one (actionForm (a .f)) xs (a .at))
     (tells-stuck actionRead (actionForm (a .f)) (a .script .now) (a .at) refl
     (action-stuck (sym (c .enum-told3 .given .1) ∙ r .action-part .ensures .0 xs h)))
@@ -119,8 +119,8 @@ read-action-spec =
     tie.close
     (tie.spec
     from-requires
-    field-requires
-    field-requires-2
+    word-requires
+    word-requires-2
     action-part-requires
     enum-known-x
     end-in-requires

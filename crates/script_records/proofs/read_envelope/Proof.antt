@@ -14,11 +14,11 @@ use Rattle.script_records.proofs.read_envelope.Tie as tie
 from-requires : tie.Need-from-requires
 from-requires c κs = search needs
 
-field-requires : tie.Need-field-requires
-field-requires c κs = search needs
+word-requires : tie.Need-word-requires
+word-requires c κs = search needs
 
-field-requires-2 : tie.Need-field-requires-2
-field-requires-2 c κs = search needs
+word-requires-2 : tie.Need-word-requires-2
+word-requires-2 c κs = search needs
 
 envelope-part-requires : tie.Need-envelope-part-requires
 envelope-part-requires c κs = search needs
@@ -31,7 +31,7 @@ end-in-requires c κs =
     let r = c .before .before .before in
     let a = r .before .before .before .before .before .args in (
       omega (arith, r .envelope-part .ensures .1, ap envelopeEnd (c .before .x .given .1)),
-      stand (a .script .now) (a .at) (r .before .before .before .from .ensures) (r .before .before .field .ensures) (r .before .field2 .ensures),
+      stand (a .script .now) (a .at) (r .before .before .before .from .ensures) (r .before .before .word .ensures) (r .before .word2 .ensures),
     )
 
 enum-known-end : tie.Need-enum-known-end
@@ -48,7 +48,7 @@ returns c =
     let r = c .before .before .before .before .before .before .before in
     let a = r .before .before .before .before .before .args in
     let xs = drop (a .at) (a .script .now) in
-    let h = stand (a .script .now) (a .at) (r .before .before .before .from .ensures) (r .before .before .field .ensures) (r .before .field2 .ensures) in
+    let h = stand (a .script .now) (a .at) (r .before .before .before .from .ensures) (r .before .before .word .ensures) (r .before .word2 .ensures) in
     envelope-both (one (envelopeForm (a .f)) xs (a .at))
     (tells-at envelopeRead (envelopeForm (a .f)) (a .script .now) (a .at) refl
     (envelope-found (sym (c .before .before .before .before .before .x .given .1) ∙ r .envelope-part .ensures .0 xs h))
@@ -59,7 +59,7 @@ returns-2 c =
     let r = c .before .before .before .before .before .before in
     let a = r .before .before .before .before .before .args in
     let xs = drop (a .at) (a .script .now) in
-    let h = stand (a .script .now) (a .at) (r .before .before .before .from .ensures) (r .before .before .field .ensures) (r .before .field2 .ensures) in
+    let h = stand (a .script .now) (a .at) (r .before .before .before .from .ensures) (r .before .before .word .ensures) (r .before .word2 .ensures) in
     envelope-both (one (envelopeForm (a .f)) xs (a .at))
     (tells-not envelopeRead (envelopeForm (a .f)) (a .script .now) (a .at) refl
     (envelope-found (sym (c .before .before .before .before .x .given .1) ∙ r .envelope-part .ensures .0 xs h))
@@ -70,7 +70,7 @@ returns-3 c =
     let r = c .before .before in
     let a = r .before .before .before .before .before .args in
     let xs = drop (a .at) (a .script .now) in
-    let h = stand (a .script .now) (a .at) (r .before .before .before .from .ensures) (r .before .before .field .ensures) (r .before .field2 .ensures) in
+    let h = stand (a .script .now) (a .at) (r .before .before .before .from .ensures) (r .before .before .word .ensures) (r .before .word2 .ensures) in
     envelope-both (one (envelopeForm (a .f)) xs (a .at))
     (tells-stuck envelopeRead (envelopeForm (a .f)) (a .script .now) (a .at) refl
     (envelope-stuck (sym (c .enum-told2 .given .1) ∙ r .envelope-part .ensures .0 xs h)))
@@ -80,8 +80,8 @@ read-envelope-spec =
     tie.close
     (tie.spec
     from-requires
-    field-requires
-    field-requires-2
+    word-requires
+    word-requires-2
     envelope-part-requires
     enum-known-x
     end-in-requires
