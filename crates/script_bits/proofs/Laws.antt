@@ -135,12 +135,8 @@ module _ (k w v : ℕ) (h : k < 64) where
   pub across-fits : v < 2 ^ 64 → w * 2 ^ k % 2 ^ 64 + v / 2 / 2 ^ (63 - k) < 2 ^ 64
   across-fits g = rw halved (window-fits k w v (omega arith) g)
 
-  across-is : (xs : List ℕ) → Front xs w v → w * 2 ^ k % 2 ^ 64 + v / 2 / 2 ^ (63 - k) ≡ fieldAt xs k 64
+  pub across-is : (xs : List ℕ) → Front xs w v → w * 2 ^ k % 2 ^ 64 + v / 2 / 2 ^ (63 - k) ≡ fieldAt xs k 64
   across-is xs f =
       let z : 0 + k ≡ k = omega arith in
       ap (λ (j : ℕ). w * 2 ^ k % 2 ^ 64 + j) halved ∙ window-is xs 0 k 64 w v (omega arith) (omega arith) (f .first) (f .second)
       ∙ ap (λ (j : ℕ). fieldAt xs j 64) z
-
-  pub across-front : (xs : List ℕ) (n : ℕ) → Front xs w v → n ≤ 64 → (w * 2 ^ k % 2 ^ 64 + v / 2 / 2 ^ (63 - k)) / 2 ^ (64 - n) ≡ fieldAt xs k n
-  across-front xs n f g =
-      let q : 64 ≡ n + (64 - n) = omega arith in front xs k n (64 - n) (across-is xs f ∙ ap (fieldAt xs k) q)
