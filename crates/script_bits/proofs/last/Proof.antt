@@ -23,17 +23,17 @@ loop-holds c =
     let z : 8 * (a .i - a .i) ≡ 0 = omega arith in
     (omega arith, omega arith, rw z)
 
+shared-slice-read-b : tie.Need-shared-slice-read-b Inv-loop μ-loop
+shared-slice-read-b c = search needs
+
+cast-b : tie.Need-cast-b Inv-loop μ-loop
+cast-b c = omega (arith, c .shared-slice-known .given (c .before .before .loop .j))
+
 mul-n : tie.Need-mul-n Inv-loop μ-loop
 mul-n c =
-    let l = c .before .loop in
-    let a = c .before .before .args in
+    let l = c .before .before .loop in
+    let a = c .before .before .before .args in
     omega (arith, l .inv .2, field-below (a .s .now) (8 * a .i) (8 * (l .j - a .i)) 56 (omega arith))
-
-shared-slice-read-n : tie.Need-shared-slice-read-n Inv-loop μ-loop
-shared-slice-read-n c = search needs
-
-cast-n : tie.Need-cast-n Inv-loop μ-loop
-cast-n c = omega (arith, c .shared-slice-known .given (c .before .before .loop .j))
 
 add-n : tie.Need-add-n Inv-loop μ-loop
 add-n c =
@@ -84,9 +84,9 @@ last-spec =
     Inv-loop
     μ-loop
     loop-holds
+    shared-slice-read-b
+    cast-b
     mul-n
-    shared-slice-read-n
-    cast-n
     add-n
     add-j
     loop-less
