@@ -1,12 +1,13 @@
 -- Why a record is read right: what stands in its fields leads its form to the value, and what follows its bits says where it ends.
 -- Assumes nothing.
-use Prim.Native.Nat.{ℕ, zero, suc, _+_, _-_, _≤_, _<_}
+use Prim.Native.Nat.{ℕ, zero, suc, _+_, _-_, _*_, _≤_, _<_}
 use native.Mathlib.Omega.{arith}
 use native.Mathlib.Numerals.{add-one}
 use mathlib.Core.Path.{_≡_, refl, sym, ap, _∙_}
 use mathlib.Core.List.{List, [], _∷_, _++_, map}
 use mathlib.Core.Bool.{Bool, true, false, true≢false}
-use borrow.Author.Tests.{le-leb, lt-leb, lt-ltb, le-ltb}
+use native.Mathlib.Decide.{ℕ-discrete}
+use borrow.Author.Tests.{le-leb, lt-leb, lt-ltb, le-ltb, eq-eqb, ne-eqb}
 use lib.ListN.{length, getD, take, drop, set, length-drop, drop-of-length-le, List·getD-eq-default}
 use lib.Seq.{take-all, drop-length, take-suc-set}
 use lib.Dec.{leb, ltb, eqb, lit≤}
@@ -17,6 +18,7 @@ use Rattle.layout.specs.Form.{Form, filled, refuse, field, Reached, reached, st
 use Rattle.layout.specs.Form.{recordOf}
 use Rattle.layout.specs.Read.{Reading, read, badAt, placed, one}
 use Rattle.layout.proofs.Laws.{onReached, follow-then, found, record-fits, follow-from, fed, follow-only, follow-not, then-reached, then-found}
+use Rattle.script_bits.specs.Front.{Front}
 use Rattle.types.specs.Capacities.{mostCommands}
 use Rattle.types.specs.declared.Action.{Action}
 use Rattle.types.specs.declared.Action.the-variants as action
@@ -87,6 +89,21 @@ module _ {A R : Type 0} (img : Reading A → R) (f : Form A) (s : List ℕ) (at 
 
   pub tells-stuck : follow xs f 0 ≡ stuck → img (badAt at) ≡ img (one f (drop at s) at)
   tells-stuck h = sym (ap img (one-stuck f (drop at s) at (there h)))
+
+-- the two words that stand at a place
+pub stand
+    : (s : List ℕ) (at : ℕ) {xs : List ℕ} {w v : ℕ} → xs ≡ drop at s → w ≡ fieldAt xs 0 64 → v ≡ fieldAt xs 64 64 → Front (drop at s) w v
+stand s at l p q = record { first = p ∙ ap (λ (ys : List ℕ). fieldAt ys 0 64) l; second = q ∙ ap (λ (ys : List ℕ). fieldAt ys 64 64) l }
+
+-- a record is cut, or is whole if what pads it is 0
+module _ (xs : List ℕ) (n : ℕ) where
+  pub whole-short : length xs < bytesFor n → wholeOf xs n ≡ false
+  unfolding wholeOf
+  whole-short h = rw (lt-leb _ _ h)
+
+  pub whole-by : {fill : ℕ} → bytesFor n ≤ length xs → fill ≡ fieldAt xs n (8 * bytesFor n - n) → wholeOf xs n ≡ eqb fill 0
+  unfolding wholeOf
+  whole-by h e = rw (le-leb _ _ h, e)
 
 -- ---- sizes
 module _ {A : Type 0} (xs : List ℕ) where
@@ -347,19 +364,26 @@ module _ (xs : List ℕ) where
     drops stuck = refl
 
     module _ {k : ℕ} (p : k ≡ fieldAt xs 0 3) (within : k < f .kinds) where
-      pub deliver-kind : k ≡ 1 → actionPart (follow xs (actionForm f) 0) ≡ withEnvelope true (envelopePart (follow xs (envelopeForm f) 3))
+      deliver-kind : k ≡ 1 → actionPart (follow xs (actionForm f) 0) ≡ withEnvelope true (envelopePart (follow xs (envelopeForm f) 3))
       unfolding actionKinds
       deliver-kind e =
           ap actionPart (kind-at p within ∙ ap (λ (j : ℕ). follow xs (getD (actionKinds f) j refuse) 3) e
           ∙ follow-then xs (envelopeForm f) (λ x. filled (item (action.Deliver x))) 3)
           ∙ delivers (follow xs (envelopeForm f) 3)
 
-      pub drop-kind : k ≡ 2 → actionPart (follow xs (actionForm f) 0) ≡ withEnvelope false (envelopePart (follow xs (envelopeForm f) 3))
+      drop-kind : k ≡ 2 → actionPart (follow xs (actionForm f) 0) ≡ withEnvelope false (envelopePart (follow xs (envelopeForm f) 3))
       unfolding actionKinds
       drop-kind e =
           ap actionPart (kind-at p within ∙ ap (λ (j : ℕ). follow xs (getD (actionKinds f) j refuse) 3) e
           ∙ follow-then xs (envelopeForm f) (λ x. filled (item (action.Drop x))) 3)
           ∙ drops (follow xs (envelopeForm f) 3)
+
+      pub envelope-kind : 1 ≤ k → k ≤ 2 → actionPart (follow xs (actionForm f) 0) ≡ withEnvelope (eqb k 1) (envelopePart (follow xs (envelopeForm f) 3))
+      envelope-kind g h = go (ℕ-discrete k 1)
+        where
+          go : Dec (k ≡ 1) → actionPart (follow xs (actionForm f) 0) ≡ withEnvelope (eqb k 1) (envelopePart (follow xs (envelopeForm f) 3))
+          go (yes e) = rw (eq-eqb k 1 e) (deliver-kind e)
+          go (no e) = rw (ne-eqb k 1 e) (drop-kind (omega arith))
 
       pub end-kind : k ≡ 0 → follow xs (actionForm f) 0 ≡ reached end 3
       unfolding actionKinds

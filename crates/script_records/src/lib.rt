@@ -1,10 +1,14 @@
 // The records of a script. Each is read at a place, as the script's format says: the answer is the value with the place after it, or the
 // place of the bad record.
 use link_inner::zero_rule;
+use script_bits::cut;
+use script_bits::cut8;
+use script_bits::cut32;
 use script_bits::field;
 use script_bits::field8;
 use script_bits::field32;
 use script_bits::whole;
+use script_bits::word;
 use types::Action;
 use types::Envelope;
 use types::Format;
@@ -20,14 +24,15 @@ use types::RuleCommand;
 use types::Slot;
 ghost use mathlib.Core.Path.{_≡_};
 ghost use mathlib.Core.Bool.{true, false};
-ghost use mathlib.Core.List.{[]};
-ghost use Prim.Native.Nat.{_+_, _≤_, _<_};
+ghost use mathlib.Core.List.{List, []};
+ghost use Prim.Native.Nat.{ℕ, _+_, _≤_, _<_};
 ghost use lib.ListN.{drop};
 ghost use lib.Dec.{leb, eqb};
 ghost use Rattle.lists.specs.Lists.{any};
 ghost use Rattle.types.specs.Capacities.{mostCommands};
 ghost use Rattle.layout.specs.Form.{filled, field, follow, then, only, times, wholeOf};
 ghost use Rattle.layout.specs.Read.{one};
+ghost use Rattle.script_bits.specs.Front.{Front};
 ghost use Rattle.rules.specs.Inner.{zeroSlot, slotsOf};
 ghost use Rattle.rules.specs.Script.{version1, versions, formatOf, Fine, headerOk, headerForm, ruleCountForm, commandForm, ruleForm, envelopeCountForm};
 ghost use Rattle.rules.specs.Script.{messageForm, envelopeForm, actionForm, unread};
@@ -126,6 +131,22 @@ fn end_of(script: &[u8], at: usize, used: usize) -> Ending
 {
     if whole(from(script, at), used) {
         return Ending::At(at + (used + 7) / 8);
+    }
+    Ending::Bad
+}
+
+// The same of a record whose bits all lie in the two words that stand at the place.
+fn end_in(script: &[u8], at: usize, w: u64, v: u64, used: usize) -> Ending
+    requires { ⌜ (used ≤ 128) × Front (drop at (now script)) w v ⌝ }
+    ensures { λ r. ⌜ r ≡ endingOf at (wholeOf (drop at (now (script .entry))) used) used ⌝ }
+{
+    let s = from(script, at);
+    let size = (used + 7) / 8;
+    if s.len() < size {
+        return Ending::Bad;
+    }
+    if cut(w, v, used, 8 * size - used) == 0 {
+        return Ending::At(at + size);
     }
     Ending::Bad
 }
@@ -386,40 +407,37 @@ pub fn read_rule(script: &[u8], at: usize, f: Format) -> RuleRead
     }
 }
 
-// ---- an envelope
-fn message_part(s: &[u8], at: usize, f: Format) -> MessagePart
-    requires { ⌜ (at < 1024) × Fine f ⌝ }
-    ensures { λ r. ⌜ r ≡ messagePart (follow (now (s .entry)) (messageForm f) at) ⌝ }
+// ---- an envelope. No format's envelope or action is longer than 123 bits: w and v are the two words that stand at its place.
+fn message_part(w: u64, v: u64, at: usize, f: Format) -> MessagePart
+    requires { ⌜ (at ≤ 24) × Fine f ⌝ }
+    ensures { λ r. ⌜ ((xs : List ℕ) → Front xs w v → r ≡ messagePart (follow xs (messageForm f) at)) ⌝ }
     ensures short { λ r. ⌜ messageEnd r ≤ at + 104 ⌝ }
 {
-    let tag = field8(s, at, f.tag);
+    let tag = cut8(w, v, at, f.tag);
     let b = at + f.tag;
     let after = b + f.number;
+    let number = cut(w, v, b, f.number);
     match tag {
         0 => {
-            let number = field(s, b, f.number);
-            let payload = field32(s, after, 32);
+            let payload = cut32(w, v, after, 32);
             MessagePart::Found(
                 Message::Deliver(Number(number), Payload(payload)),
                 after + 32,
             )
         }
-        1 => {
-            let number = field(s, b, f.number);
-            MessagePart::Found(Message::Ack(Number(number)), after)
-        }
+        1 => MessagePart::Found(Message::Ack(Number(number)), after),
         _ => MessagePart::Stuck,
     }
 }
 
-fn envelope_part(s: &[u8], at: usize, f: Format) -> EnvelopePart
-    requires { ⌜ (at < 100) × Fine f ⌝ }
-    ensures { λ r. ⌜ r ≡ envelopePart (follow (now (s .entry)) (envelopeForm f) at) ⌝ }
+fn envelope_part(w: u64, v: u64, at: usize, f: Format) -> EnvelopePart
+    requires { ⌜ (at ≤ 8) × Fine f ⌝ }
+    ensures { λ r. ⌜ ((xs : List ℕ) → Front xs w v → r ≡ envelopePart (follow xs (envelopeForm f) at)) ⌝ }
     ensures short { λ r. ⌜ envelopeEnd r ≤ at + 120 ⌝ }
 {
-    let src = field8(s, at, 8);
-    let dst = field8(s, at + 8, 8);
-    let m = message_part(s, at + 16, f);
+    let src = cut8(w, v, at, 8);
+    let dst = cut8(w, v, at + 8, 8);
+    let m = message_part(w, v, at + 16, f);
     match m {
         MessagePart::Found(msg, end) => EnvelopePart::Found(
             Envelope {
@@ -438,10 +456,13 @@ pub fn read_envelope(script: &[u8], at: usize, f: Format) -> EnvelopeRead
     ensures { λ r. ⌜ r ≡ envelopeRead (one (envelopeForm f) (drop at (now (script .entry))) at) ⌝ }
     ensures says { λ r. ⌜ envelopeSays r ≡ readingSays (one (envelopeForm f) (drop at (now (script .entry))) at) ⌝ }
 {
-    let x = envelope_part(from(script, at), 0, f);
+    let s = from(script, at);
+    let w = word(s, 0);
+    let v = word(s, 8);
+    let x = envelope_part(w, v, 0, f);
     match x {
         EnvelopePart::Found(e, used) => {
-            let end = end_of(script, at, used);
+            let end = end_in(script, at, w, v, used);
             match end {
                 Ending::At(next) => EnvelopeRead::Found(e, next),
                 Ending::Bad => EnvelopeRead::Bad(at),
@@ -467,30 +488,29 @@ fn with_envelope(x: EnvelopePart, delivers: bool) -> ActionPart
 }
 
 // Its kind, of which the format has so many, and what belongs to it.
-fn action_part(s: &[u8], f: Format) -> ActionPart
+fn action_part(w: u64, v: u64, f: Format) -> ActionPart
     requires { ⌜ Fine f ⌝ }
-    ensures { λ r. ⌜ r ≡ actionPart (follow (now (s .entry)) (actionForm f) 0) ⌝ }
+    ensures { λ r. ⌜ ((xs : List ℕ) → Front xs w v → r ≡ actionPart (follow xs (actionForm f) 0)) ⌝ }
     ensures short { λ r. ⌜ actionEnd r ≤ 123 ⌝ }
 {
-    let kind = field8(s, 0, 3);
+    let kind = cut8(w, v, 0, 3);
     if f.kinds <= kind {
         return ActionPart::Stuck;
     }
     match kind {
         0 => ActionPart::End(3),
-        1 => with_envelope(envelope_part(s, 3, f), true),
-        2 => with_envelope(envelope_part(s, 3, f), false),
+        1 | 2 => with_envelope(envelope_part(w, v, 3, f), kind == 1),
         3 => {
-            let id = field8(s, 3, 8);
-            let timer = field8(s, 11, 5);
+            let id = cut8(w, v, 3, 8);
+            let timer = cut8(w, v, 11, 5);
             ActionPart::Act(Action::Timeout(Id(id), timer), 16)
         }
         4 => {
-            let id = field8(s, 3, 8);
+            let id = cut8(w, v, 3, 8);
             ActionPart::Act(Action::Crash(Id(id)), 11)
         }
         5 => {
-            let id = field8(s, 3, 8);
+            let id = cut8(w, v, 3, 8);
             ActionPart::Act(Action::Recover(Id(id)), 11)
         }
         _ => ActionPart::Stuck,
@@ -503,17 +523,20 @@ pub fn read_action(script: &[u8], at: usize, f: Format) -> ActionRead
     ensures { λ r. ⌜ r ≡ actionRead (one (actionForm f) (drop at (now (script .entry))) at) ⌝ }
     ensures says { λ r. ⌜ actionSays r ≡ readingSays (one (actionForm f) (drop at (now (script .entry))) at) ⌝ }
 {
-    let x = action_part(from(script, at), f);
+    let s = from(script, at);
+    let w = word(s, 0);
+    let v = word(s, 8);
+    let x = action_part(w, v, f);
     match x {
         ActionPart::Act(a, used) => {
-            let end = end_of(script, at, used);
+            let end = end_in(script, at, w, v, used);
             match end {
                 Ending::At(next) => ActionRead::Act(a, next),
                 Ending::Bad => ActionRead::Bad(at),
             }
         }
         ActionPart::End(used) => {
-            let end = end_of(script, at, used);
+            let end = end_in(script, at, w, v, used);
             match end {
                 Ending::At(next) => ActionRead::End(next),
                 Ending::Bad => ActionRead::Bad(at),

@@ -9,14 +9,14 @@ use borrow.Author.Needs.{needs}
 use Rattle.script_records.proofs.envelope_part.Statement.{statement}
 use Rattle.script_records.proofs.envelope_part.Tie as tie
 
-field8-requires : tie.Need-field8-requires
-field8-requires c κs = search needs
+cut8-requires : tie.Need-cut8-requires
+cut8-requires c κs = search needs
 
-add-field8 : tie.Need-add-field8
-add-field8 c = search needs
+add-cut8 : tie.Need-add-cut8
+add-cut8 c = search needs
 
-field8-requires-2 : tie.Need-field8-requires-2
-field8-requires-2 c κs = search needs
+cut8-requires-2 : tie.Need-cut8-requires-2
+cut8-requires-2 c κs = search needs
 
 add-message-part : tie.Need-add-message-part
 add-message-part c = search needs
@@ -32,22 +32,22 @@ enum-told c = search needs
 
 returns : tie.Need-returns
 returns c =
-    let a = c .before .before .before .before .before .before .before .args in
-    let m = c .before .before .before .message-part in
-    let h = message-found (sym (c .before .m .given .1) ∙ m .ensures .0) in (
-      sym (ap envelopePart
-          (envelope-at (a .s .now) (a .f) (a .at) (c .before .before .before .before .before .field8 .ensures)
-          (c .before .before .before .before .field82 .ensures) refl h)),
+    let a = c .before .before .before .before .before .before .args in
+    let m = c .before .before .before .message-part in (
+      λ xs h. sym (ap envelopePart
+          (envelope-at xs (a .f) (a .at) (c .before .before .before .before .before .cut8 .ensures xs h)
+          (c .before .before .before .before .cut82 .ensures xs h) refl
+          (message-found (sym (c .before .m .given .1) ∙ m .ensures .0 xs h)))),
       omega (arith, m .ensures .1, ap messageEnd (c .before .m .given .1)),
     )
 
 returns-2 : tie.Need-returns-2
 returns-2 c =
-    let a = c .before .before .before .before .before .before .args in
-    let m = c .before .before .message-part in
-    let h = message-stuck (sym (c .enum-told .given .1) ∙ m .ensures .0) in (
-      sym (ap envelopePart
-          (no-envelope (a .s .now) (a .f) (a .at) (c .before .before .before .before .field8 .ensures) (c .before .before .before .field82 .ensures) refl h)),
+    let a = c .before .before .before .before .before .args in
+    let m = c .before .before .message-part in (
+      λ xs h. sym (ap envelopePart
+          (no-envelope xs (a .f) (a .at) (c .before .before .before .before .cut8 .ensures xs h) (c .before .before .before .cut82 .ensures xs h) refl
+          (message-stuck (sym (c .enum-told .given .1) ∙ m .ensures .0 xs h)))),
       search needs,
     )
 
@@ -55,9 +55,9 @@ pub envelope-part-spec : {M : Type 1} → statement M
 envelope-part-spec =
     tie.close
     (tie.spec
-    field8-requires
-    add-field8
-    field8-requires-2
+    cut8-requires
+    add-cut8
+    cut8-requires-2
     add-message-part
     message-part-requires
     enum-known-m

@@ -7,8 +7,8 @@ use borrow.Author.Needs.{needs}
 use Rattle.script_records.proofs.message_part.Statement.{statement}
 use Rattle.script_records.proofs.message_part.Tie as tie
 
-field8-requires : tie.Need-field8-requires
-field8-requires c κs = search needs
+cut8-requires : tie.Need-cut8-requires
+cut8-requires c κs = search needs
 
 add-b : tie.Need-add-b
 add-b c = search needs
@@ -16,52 +16,48 @@ add-b c = search needs
 add-after : tie.Need-add-after
 add-after c = search needs
 
-field-requires : tie.Need-field-requires
-field-requires c κs = search needs
+cut-requires : tie.Need-cut-requires
+cut-requires c κs = search needs
 
-field32-requires : tie.Need-field32-requires
-field32-requires c κs = search needs
+cut32-requires : tie.Need-cut32-requires
+cut32-requires c κs = search needs
 
 add-t14 : tie.Need-add-t14
 add-t14 c = search needs
 
-field-requires-2 : tie.Need-field-requires-2
-field-requires-2 c κs = search needs
-
 returns : tie.Need-returns
 returns c =
-    let a = c .before .before .before .before .before .before .before .args in (
-      sym (ap messagePart
-          (deliver-at (a .s .now) (a .f) (a .at) refl refl (omega (arith, c .before .before .before .before .before .field8 .ensures))
-          (c .before .field .ensures)
-          (c .field32 .ensures) refl)),
+    let a = c .before .before .before .before .before .before .args in (
+      λ xs h. sym (ap messagePart
+          (deliver-at xs (a .f) (a .at) refl refl (omega (arith, c .before .before .before .before .before .cut8 .ensures xs h))
+          (c .before .before .cut .ensures .0 xs h)
+          (c .cut32 .ensures xs h) refl)),
       search needs,
     )
 
 returns-2 : tie.Need-returns-2
 returns-2 c =
-    let a = c .before .before .before .before .before .before .args in (
-      sym (ap messagePart
-          (ack-at (a .s .now) (a .f) (a .at) refl refl (omega (arith, c .before .before .before .before .field8 .ensures)) (c .field2 .ensures))),
+    let a = c .before .before .before .before .before .args in (
+      λ xs h. sym (ap messagePart
+          (ack-at xs (a .f) (a .at) refl refl (omega (arith, c .before .before .before .before .cut8 .ensures xs h)) (c .before .cut .ensures .0 xs h))),
       search needs,
     )
 
 returns-3 : tie.Need-returns-3
 returns-3 c =
     let a = c .before .before .before .before .before .args in
-    (sym (ap messagePart (no-message (a .s .now) (a .f) (a .at) (omega (arith, c .before .before .before .field8 .ensures)))), search needs)
+    (λ xs h. sym (ap messagePart (no-message xs (a .f) (a .at) (omega (arith, c .before .before .before .before .cut8 .ensures xs h)))), search needs)
 
 pub message-part-spec : {M : Type 1} → statement M
 message-part-spec =
     tie.close
     (tie.spec
-    field8-requires
+    cut8-requires
     add-b
     add-after
-    field-requires
-    field32-requires
+    cut-requires
+    cut32-requires
     add-t14
-    field-requires-2
     returns
     returns-2
     returns-3)

@@ -5,7 +5,7 @@ use lib.ListN.{drop}
 use Rattle.layout.specs.Read.{one}
 use Rattle.rules.specs.Script.{actionForm}
 use Rattle.script_records.specs.Views.{actionRead, actionEnd}
-use Rattle.script_records.proofs.Laws.{tells-at, tells-not, tells-stuck, action-found, action-ended, action-stuck}
+use Rattle.script_records.proofs.Laws.{stand, tells-at, tells-not, tells-stuck, action-found, action-ended, action-stuck}
 use Rattle.script_records.proofs.Says.{action-both}
 use borrow.Author.Needs.{needs}
 use Rattle.script_records.proofs.read_action.Statement.{statement}
@@ -14,14 +14,25 @@ use Rattle.script_records.proofs.read_action.Tie as tie
 from-requires : tie.Need-from-requires
 from-requires c κs = search needs
 
+word-requires : tie.Need-word-requires
+word-requires c κs = search needs
+
+word-requires-2 : tie.Need-word-requires-2
+word-requires-2 c κs = search needs
+
 action-part-requires : tie.Need-action-part-requires
 action-part-requires c κs = search needs
 
 enum-known-x : tie.Need-enum-known-x
 enum-known-x c = search needs
 
-end-of-requires : tie.Need-end-of-requires
-end-of-requires c κs = omega (arith, c .before .before .before .action-part .ensures .1, ap actionEnd (c .before .x .given .1))
+end-in-requires : tie.Need-end-in-requires
+end-in-requires c κs =
+    let r = c .before .before .before in
+    let a = r .before .before .before .before .before .args in (
+      omega (arith, r .action-part .ensures .1, ap actionEnd (c .before .x .given .1)),
+      stand (a .script .now) (a .at) (r .before .before .before .from .ensures) (r .before .before .word .ensures) (r .before .word2 .ensures),
+    )
 
 enum-known-end : tie.Need-enum-known-end
 enum-known-end c = search needs
@@ -32,8 +43,13 @@ enum-told c = search needs
 enum-known-x-2 : tie.Need-enum-known-x-2
 enum-known-x-2 c = search needs
 
-end-of-requires-2 : tie.Need-end-of-requires-2
-end-of-requires-2 c κs = omega (arith, c .before .before .before .action-part .ensures .1, ap actionEnd (c .before .x2 .given .1))
+end-in-requires-2 : tie.Need-end-in-requires-2
+end-in-requires-2 c κs =
+    let r = c .before .before .before in
+    let a = r .before .before .before .before .before .args in (
+      omega (arith, r .action-part .ensures .1, ap actionEnd (c .before .x2 .given .1)),
+      stand (a .script .now) (a .at) (r .before .before .before .from .ensures) (r .before .before .word .ensures) (r .before .word2 .ensures),
+    )
 
 enum-known-end-2 : tie.Need-enum-known-end-2
 enum-known-end-2 c = search needs
@@ -47,59 +63,71 @@ enum-told-3 c = search needs
 returns : tie.Need-returns
 returns c =
     let r = c .before .before .before .before .before .before .before in
-    let a = r .before .before .before .args in
-    action-both (one (actionForm (a .f)) (drop (a .at) (a .script .now)) (a .at))
-    (tells-at actionRead (actionForm (a .f)) (a .script .now) (a .at) (r .before .from .ensures)
-    (action-found (sym (c .before .before .before .before .before .x .given .1) ∙ r .action-part .ensures .0))
-    (sym (c .before .end .given .1) ∙ c .before .before .before .end-of .ensures) refl)
+    let a = r .before .before .before .before .before .args in
+    let xs = drop (a .at) (a .script .now) in
+    let h = stand (a .script .now) (a .at) (r .before .before .before .from .ensures) (r .before .before .word .ensures) (r .before .word2 .ensures) in
+    action-both (one (actionForm (a .f)) xs (a .at))
+    (tells-at actionRead (actionForm (a .f)) (a .script .now) (a .at) refl
+    (action-found (sym (c .before .before .before .before .before .x .given .1) ∙ r .action-part .ensures .0 xs h))
+    (sym (c .before .end .given .1) ∙ c .before .before .before .end-in .ensures) refl)
 
 returns-2 : tie.Need-returns-2
 returns-2 c =
     let r = c .before .before .before .before .before .before in
-    let a = r .before .before .before .args in
-    action-both (one (actionForm (a .f)) (drop (a .at) (a .script .now)) (a .at))
-    (tells-not actionRead (actionForm (a .f)) (a .script .now) (a .at) (r .before .from .ensures)
-    (action-found (sym (c .before .before .before .before .x .given .1) ∙ r .action-part .ensures .0))
-    (sym (c .enum-told .given .1) ∙ c .before .before .end-of .ensures))
+    let a = r .before .before .before .before .before .args in
+    let xs = drop (a .at) (a .script .now) in
+    let h = stand (a .script .now) (a .at) (r .before .before .before .from .ensures) (r .before .before .word .ensures) (r .before .word2 .ensures) in
+    action-both (one (actionForm (a .f)) xs (a .at))
+    (tells-not actionRead (actionForm (a .f)) (a .script .now) (a .at) refl
+    (action-found (sym (c .before .before .before .before .x .given .1) ∙ r .action-part .ensures .0 xs h))
+    (sym (c .enum-told .given .1) ∙ c .before .before .end-in .ensures))
 
 returns-3 : tie.Need-returns-3
 returns-3 c =
     let r = c .before .before .before .before .before .before .before in
-    let a = r .before .before .before .args in
-    action-both (one (actionForm (a .f)) (drop (a .at) (a .script .now)) (a .at))
-    (tells-at actionRead (actionForm (a .f)) (a .script .now) (a .at) (r .before .from .ensures)
-    (action-ended (sym (c .before .before .before .before .before .x2 .given .1) ∙ r .action-part .ensures .0))
-    (sym (c .before .end2 .given .1) ∙ c .before .before .before .end-of2 .ensures) refl)
+    let a = r .before .before .before .before .before .args in
+    let xs = drop (a .at) (a .script .now) in
+    let h = stand (a .script .now) (a .at) (r .before .before .before .from .ensures) (r .before .before .word .ensures) (r .before .word2 .ensures) in
+    action-both (one (actionForm (a .f)) xs (a .at))
+    (tells-at actionRead (actionForm (a .f)) (a .script .now) (a .at) refl
+    (action-ended (sym (c .before .before .before .before .before .x2 .given .1) ∙ r .action-part .ensures .0 xs h))
+    (sym (c .before .end2 .given .1) ∙ c .before .before .before .end-in2 .ensures) refl)
 
 returns-4 : tie.Need-returns-4
 returns-4 c =
     let r = c .before .before .before .before .before .before in
-    let a = r .before .before .before .args in
-    action-both (one (actionForm (a .f)) (drop (a .at) (a .script .now)) (a .at))
-    (tells-not actionRead (actionForm (a .f)) (a .script .now) (a .at) (r .before .from .ensures)
-    (action-ended (sym (c .before .before .before .before .x2 .given .1) ∙ r .action-part .ensures .0))
-    (sym (c .enum-told2 .given .1) ∙ c .before .before .end-of2 .ensures))
+    let a = r .before .before .before .before .before .args in
+    let xs = drop (a .at) (a .script .now) in
+    let h = stand (a .script .now) (a .at) (r .before .before .before .from .ensures) (r .before .before .word .ensures) (r .before .word2 .ensures) in
+    action-both (one (actionForm (a .f)) xs (a .at))
+    (tells-not actionRead (actionForm (a .f)) (a .script .now) (a .at) refl
+    (action-ended (sym (c .before .before .before .before .x2 .given .1) ∙ r .action-part .ensures .0 xs h))
+    (sym (c .enum-told2 .given .1) ∙ c .before .before .end-in2 .ensures))
 
 returns-5 : tie.Need-returns-5
 returns-5 c =
     let r = c .before .before in
-    let a = r .before .before .before .args in
-    action-both (one (actionForm (a .f)) (drop (a .at) (a .script .now)) (a .at))
-    (tells-stuck actionRead (actionForm (a .f)) (a .script .now) (a .at) (r .before .from .ensures)
-    (action-stuck (sym (c .enum-told3 .given .1) ∙ r .action-part .ensures .0)))
+    let a = r .before .before .before .before .before .args in
+    let xs = drop (a .at) (a .script .now) in
+    let h = stand (a .script .now) (a .at) (r .before .before .before .from .ensures) (r .before .before .word .ensures) (r .before .word2 .ensures) in
+    action-both (one (actionForm (a .f)) xs (a .at))
+    (tells-stuck actionRead (actionForm (a .f)) (a .script .now) (a .at) refl
+    (action-stuck (sym (c .enum-told3 .given .1) ∙ r .action-part .ensures .0 xs h)))
 
 pub read-action-spec : {M : Type 1} → statement M
 read-action-spec =
     tie.close
     (tie.spec
     from-requires
+    word-requires
+    word-requires-2
     action-part-requires
     enum-known-x
-    end-of-requires
+    end-in-requires
     enum-known-end
     enum-told
     enum-known-x-2
-    end-of-requires-2
+    end-in-requires-2
     enum-known-end-2
     enum-told-2
     enum-told-3

@@ -5,7 +5,7 @@ use lib.ListN.{drop}
 use Rattle.layout.specs.Read.{one}
 use Rattle.rules.specs.Script.{envelopeForm}
 use Rattle.script_records.specs.Views.{envelopeRead, envelopeEnd}
-use Rattle.script_records.proofs.Laws.{tells-at, tells-not, tells-stuck, envelope-found, envelope-stuck}
+use Rattle.script_records.proofs.Laws.{stand, tells-at, tells-not, tells-stuck, envelope-found, envelope-stuck}
 use Rattle.script_records.proofs.Says.{envelope-both}
 use borrow.Author.Needs.{needs}
 use Rattle.script_records.proofs.read_envelope.Statement.{statement}
@@ -14,14 +14,25 @@ use Rattle.script_records.proofs.read_envelope.Tie as tie
 from-requires : tie.Need-from-requires
 from-requires c κs = search needs
 
+word-requires : tie.Need-word-requires
+word-requires c κs = search needs
+
+word-requires-2 : tie.Need-word-requires-2
+word-requires-2 c κs = search needs
+
 envelope-part-requires : tie.Need-envelope-part-requires
 envelope-part-requires c κs = search needs
 
 enum-known-x : tie.Need-enum-known-x
 enum-known-x c = search needs
 
-end-of-requires : tie.Need-end-of-requires
-end-of-requires c κs = omega (arith, c .before .before .before .envelope-part .ensures .1, ap envelopeEnd (c .before .x .given .1))
+end-in-requires : tie.Need-end-in-requires
+end-in-requires c κs =
+    let r = c .before .before .before in
+    let a = r .before .before .before .before .before .args in (
+      omega (arith, r .envelope-part .ensures .1, ap envelopeEnd (c .before .x .given .1)),
+      stand (a .script .now) (a .at) (r .before .before .before .from .ensures) (r .before .before .word .ensures) (r .before .word2 .ensures),
+    )
 
 enum-known-end : tie.Need-enum-known-end
 enum-known-end c = search needs
@@ -35,37 +46,45 @@ enum-told-2 c = search needs
 returns : tie.Need-returns
 returns c =
     let r = c .before .before .before .before .before .before .before in
-    let a = r .before .before .before .args in
-    envelope-both (one (envelopeForm (a .f)) (drop (a .at) (a .script .now)) (a .at))
-    (tells-at envelopeRead (envelopeForm (a .f)) (a .script .now) (a .at) (r .before .from .ensures)
-    (envelope-found (sym (c .before .before .before .before .before .x .given .1) ∙ r .envelope-part .ensures .0))
-    (sym (c .before .end .given .1) ∙ c .before .before .before .end-of .ensures) refl)
+    let a = r .before .before .before .before .before .args in
+    let xs = drop (a .at) (a .script .now) in
+    let h = stand (a .script .now) (a .at) (r .before .before .before .from .ensures) (r .before .before .word .ensures) (r .before .word2 .ensures) in
+    envelope-both (one (envelopeForm (a .f)) xs (a .at))
+    (tells-at envelopeRead (envelopeForm (a .f)) (a .script .now) (a .at) refl
+    (envelope-found (sym (c .before .before .before .before .before .x .given .1) ∙ r .envelope-part .ensures .0 xs h))
+    (sym (c .before .end .given .1) ∙ c .before .before .before .end-in .ensures) refl)
 
 returns-2 : tie.Need-returns-2
 returns-2 c =
     let r = c .before .before .before .before .before .before in
-    let a = r .before .before .before .args in
-    envelope-both (one (envelopeForm (a .f)) (drop (a .at) (a .script .now)) (a .at))
-    (tells-not envelopeRead (envelopeForm (a .f)) (a .script .now) (a .at) (r .before .from .ensures)
-    (envelope-found (sym (c .before .before .before .before .x .given .1) ∙ r .envelope-part .ensures .0))
-    (sym (c .enum-told .given .1) ∙ c .before .before .end-of .ensures))
+    let a = r .before .before .before .before .before .args in
+    let xs = drop (a .at) (a .script .now) in
+    let h = stand (a .script .now) (a .at) (r .before .before .before .from .ensures) (r .before .before .word .ensures) (r .before .word2 .ensures) in
+    envelope-both (one (envelopeForm (a .f)) xs (a .at))
+    (tells-not envelopeRead (envelopeForm (a .f)) (a .script .now) (a .at) refl
+    (envelope-found (sym (c .before .before .before .before .x .given .1) ∙ r .envelope-part .ensures .0 xs h))
+    (sym (c .enum-told .given .1) ∙ c .before .before .end-in .ensures))
 
 returns-3 : tie.Need-returns-3
 returns-3 c =
     let r = c .before .before in
-    let a = r .before .before .before .args in
-    envelope-both (one (envelopeForm (a .f)) (drop (a .at) (a .script .now)) (a .at))
-    (tells-stuck envelopeRead (envelopeForm (a .f)) (a .script .now) (a .at) (r .before .from .ensures)
-    (envelope-stuck (sym (c .enum-told2 .given .1) ∙ r .envelope-part .ensures .0)))
+    let a = r .before .before .before .before .before .args in
+    let xs = drop (a .at) (a .script .now) in
+    let h = stand (a .script .now) (a .at) (r .before .before .before .from .ensures) (r .before .before .word .ensures) (r .before .word2 .ensures) in
+    envelope-both (one (envelopeForm (a .f)) xs (a .at))
+    (tells-stuck envelopeRead (envelopeForm (a .f)) (a .script .now) (a .at) refl
+    (envelope-stuck (sym (c .enum-told2 .given .1) ∙ r .envelope-part .ensures .0 xs h)))
 
 pub read-envelope-spec : {M : Type 1} → statement M
 read-envelope-spec =
     tie.close
     (tie.spec
     from-requires
+    word-requires
+    word-requires-2
     envelope-part-requires
     enum-known-x
-    end-of-requires
+    end-in-requires
     enum-known-end
     enum-told
     enum-told-2

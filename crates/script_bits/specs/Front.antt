@@ -1,0 +1,11 @@
+-- The first 128 bits of some bytes, as two words.
+-- Assumes nothing.
+use Prim.Native.Nat.{ℕ}
+use mathlib.Core.Path.{_≡_}
+use mathlib.Core.List.{List}
+use Rattle.layout.specs.Bits.{fieldAt}
+
+-- Past the end of the bytes every bit is 0, so that any bytes have such words.
+pub record Front (xs : List ℕ) (w v : ℕ) : Type 0 where
+  pub first : w ≡ fieldAt xs 0 64
+  pub second : v ≡ fieldAt xs 64 64
