@@ -162,7 +162,7 @@ sent-append (Cancel t ∷ cs) ds = sent-append cs ds
 sent-append (Save d ∷ cs) ds = sent-append cs ds
 sent-append (Send r m ∷ cs) ds = let z = sent-append cs ds in omega arith
 
-sent-take : (k : ℕ) (cs : List Command) → sent (take k cs) ≤ sent cs
+pub sent-take : (k : ℕ) (cs : List Command) → sent (take k cs) ≤ sent cs
 unfolding sent
 sent-take zero cs = omega arith
 sent-take (suc k) [] = omega arith

@@ -51,7 +51,7 @@ pub fn refusal(next: u64, pending: u64, room: u64, sends: u64) -> Answer
 }
 
 // Whether so many sends cannot be refused.
-fn roomy(room: usize, used: usize, len: u64, sends: u64) -> bool
+pub fn roomy(room: usize, used: usize, len: u64, sends: u64) -> bool
     requires { ⌜ used ≤ room ⌝ }
     ensures { λ r. ⌜ (r ≡ true → (used + sends ≤ room) × (len + sends ≤ mostCopies)) ⌝ }
 {

@@ -6,7 +6,7 @@ use native.Mathlib.Numerals.{add-one}
 use mathlib.Core.Path.{_≡_, refl, sym, ap, _∙_}
 use mathlib.Core.Bool.{Bool, true, false}
 use mathlib.Core.List.{List, [], _∷_, map}
-use lib.ListN.{length, take, drop, getD}
+use lib.ListN.{length, take, drop, getD, length-map}
 use lib.Seq.{getD-take, length-take-le}
 use Rattle.types.specs.Capacities.{mostCopies}
 use Rattle.types.specs.declared.Id.{Id}
@@ -27,6 +27,8 @@ use Rattle.net_rows.proofs.Ready.{send-ready}
 use Rattle.link_rows.specs.Rows.{pendingIn}
 use Rattle.answers.specs.Answers.{isDone}
 use Rattle.sys_emits.specs.Views.{sysIn, Ran}
+use Rattle.sys_seat.proofs.Rooms.{sent}
+use Rattle.sys_reacts.proofs.Laws.{sent-take}
 use Rattle.sys_emits.proofs.Laws.{take-first, not-both, sent-full, sent-on, sent-stops}
 
 stepped : {A B : Type 0} (f : A → B) (l : List A) (i : ℕ) (d : A) → i < length l → drop i (map f l) ≡ f (getD l i d) ∷ drop (suc i) (map f l)
@@ -40,7 +42,10 @@ ended-at f (x ∷ l) = ended-at f l
 
 module _ (p : List (List ℕ)) (n : ℕ) (fit : n ≤ length p) where
   pub next-one : (i : ℕ) → i < n → drop i (map pendingIn (take n p)) ≡ pendingIn (getD p i []) ∷ drop (i + 1) (map pendingIn (take n p))
-  next-one i h = let z = length-take-le n p fit in rw (add-one i) (stepped pendingIn (take n p) i [] (omega arith) ∙ ap (λ (q : List ℕ). pendingIn q ∷ drop (suc i) (map pendingIn (take n p))) (getD-take n p i [] h))
+  next-one i h =
+      let z = length-take-le n p fit in
+      rw (add-one i) (stepped pendingIn (take n p) i [] (omega arith)
+      ∙ ap (λ (q : List ℕ). pendingIn q ∷ drop (suc i) (map pendingIn (take n p))) (getD-take n p i [] h))
 
   pub no-more : (i : ℕ) → i ≡ n → drop i (map pendingIn (take n p)) ≡ []
   no-more i e = ap (λ (k : ℕ). drop k (map pendingIn (take n p))) (e ∙ sym (length-take-le n p fit)) ∙ ended-at pendingIn (take n p)
@@ -50,10 +55,12 @@ module _ (kind : Kind) (me : Id) (cmds : List Command) (cs₀ : List (List ℕ))
     pub room : length cs ≡ length cs₀
     pub ready : NetReady kind cs u l
     pub goal : (hall : Around me) (last : LastMessage) (a : Actor)
-        → runCommands (roomOf cs₀) me cmds (sysIn me hall kind last cs₀ used w a) ≡ runCommands (roomOf cs₀) me (take k (resent rest)) (sysIn me hall kind last cs u w a)
+        → runCommands (roomOf cs₀) me cmds (sysIn me hall kind last cs₀ used w a)
+        ≡ runCommands (roomOf cs₀) me (take k (resent rest)) (sysIn me hall kind last cs u w a)
 
   module _ (cs : List (List ℕ)) (u l k : ℕ) (rest : List Pending) (on : Along cs u l k rest) where
-    pub along-end : take k (resent rest) ≡ [] → Ran kind me cmds cs₀ used w (record { answer = Done; used = u; len = l; timers = w; next = 0; left = k }) cs
+    pub along-end : take k (resent rest) ≡ []
+        → Ran kind me cmds cs₀ used w (record { answer = Done; used = u; len = l; timers = w; next = 0; left = k }) cs
     unfolding runCommands
     along-end e = record {
       room = on .room;
@@ -111,3 +118,17 @@ nothing-more (suc k) rest e = rw e
 
 pub none-left : (k : ℕ) (rest : List Pending) → k ≡ 0 → take k (resent rest) ≡ []
 none-left k rest e = rw e
+
+-- ---- how many are sent
+resent-sends : (ps : List Pending) → sent (resent ps) ≡ length ps
+unfolding resent sent
+resent-sends [] = refl
+resent-sends (q ∷ ps) = ap suc (resent-sends ps)
+
+pub few-resent : (p : List (List ℕ)) (n limit : ℕ) → n ≤ length p → sent (take limit (resent (map pendingIn (take n p)))) ≤ n
+few-resent p n limit fit =
+    let a = sent-take limit (resent (map pendingIn (take n p))) in
+    let b = resent-sends (map pendingIn (take n p)) in
+    let c = length-map (take n p) pendingIn in
+    let d = length-take-le n p fit in
+    omega arith

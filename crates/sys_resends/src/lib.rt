@@ -1,12 +1,14 @@
-// Every pending message is sent again, in place, at most so many of them. After an 8 the cells are the caller's to put back.
+// Every pending message is sent again, in place, at most so many of them; and the same with the cells put back after an 8.
 use answers::is_done;
 use link_rows::RECORD;
 use sys_emits::Emitted;
+use sys_reacts::roomy;
 use net_rows::Sent;
 use answers::Answer;
 use types::Envelope;
 use types::Id;
 use types::Kind;
+use types::MOST_ENTRIES;
 use types::Message;
 use types::Number;
 use types::Payload;
@@ -14,6 +16,7 @@ ghost use mathlib.Core.Path.{_≡_};
 ghost use mathlib.Core.List.{map};
 ghost use Prim.Native.Nat.{_≤_, _<_};
 ghost use lib.ListN.{length, take};
+ghost use Rattle.types.specs.Capacities.{mostEntries};
 ghost use Rattle.types.specs.declared.LastMessage.{LastMessage};
 ghost use Rattle.types.specs.declared.Message.the-variants.{Deliver};
 ghost use Rattle.rules.specs.Network.{send};
@@ -21,6 +24,7 @@ ghost use Rattle.rules.specs.Link.{resent};
 ghost use Rattle.net_rows.specs.Views.{netOf, roomOf, NetReady, Changed};
 ghost use Rattle.link_rows.specs.Rows.{pendingIn, Sendable};
 ghost use Rattle.sys_emits.specs.Views.{Ran};
+ghost use Rattle.sys_reacts.specs.Views.{Safe};
 
 fn resend_one(
     c: &mut [[u64; 4]],
@@ -33,7 +37,9 @@ fn resend_one(
     payload: u64,
 ) -> Sent
     requires { ⌜ NetReady kind (now c) used len × (dst < 256) × (payload < 4294967296) ⌝ }
-    ensures { λ r. ⌜ ((last : LastMessage) → Changed (now (c .entry)) used len (send (roomOf (now (c .entry))) (record { src = me; dst = record { 0 = dst }; msg = Deliver (record { 0 = number }) (record { 0 = payload }) }) (netOf kind last (now (c .entry)) used)) r (now (c .exit))) ⌝ }
+    ensures { λ r. ⌜ ((last : LastMessage) → Changed (now (c .entry)) used len (send (roomOf (now (c .entry)))
+        (record { src = me; dst = record { 0 = dst }; msg = Deliver (record { 0 = number }) (record { 0 = payload }) }) (netOf kind last (now (c .entry)) used))
+        r (now (c .exit))) ⌝ }
 {
     let e = Envelope {
         src: me,
@@ -43,6 +49,7 @@ fn resend_one(
     net_rows::send(c, kind, used, len, e)
 }
 
+// After an 8 the cells are the caller's to put back.
 pub fn resend(
     c: &mut [[u64; 4]],
     kind: Kind,
@@ -96,5 +103,40 @@ pub fn resend(
         timers: timers,
         next: 0,
         left: k,
+    }
+}
+
+// The same, put back after an 8. Where there is room for all of them no copy is made.
+pub fn resend_all(
+    c: &mut [[u64; 4]; MOST_ENTRIES],
+    kind: Kind,
+    used: usize,
+    len: u64,
+    timers: u32,
+    me: Id,
+    pend: &[[u64; RECORD]],
+    n: usize,
+    limit: usize,
+) -> Emitted
+    requires { ⌜ NetReady kind (now c) used len × (n ≤ length (now pend)) × Sendable (now pend) n × (length (now c) ≡ mostEntries) ⌝ }
+    ensures { λ r. ⌜ Safe kind me (take limit (resent (map pendingIn (take n (now (pend .entry)))))) (now (c .entry)) used len timers r (now (c .exit)) ⌝ }
+{
+    if roomy(MOST_ENTRIES, used, len, n as u64) {
+        return resend(c, kind, used, len, timers, me, pend, n, limit);
+    }
+    let old = *c;
+    let s = resend(c, kind, used, len, timers, me, pend, n, limit);
+    let a = s.answer;
+    if is_done(a) {
+        return s;
+    }
+    *c = old;
+    Emitted {
+        answer: a,
+        used: used,
+        len: len,
+        timers: timers,
+        next: 0,
+        left: limit,
     }
 }

@@ -1,0 +1,4 @@
+// A Timeout on lent rows.
+pub fn nothing() -> u64 {
+    0
+}
