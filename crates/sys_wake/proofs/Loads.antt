@@ -8,20 +8,21 @@ use mathlib.Core.List.{List, [], map}
 use lib.ListN.{length, take, drop, getD, set, replicate, length-set}
 use lib.Seq.{getD-set-same, getD-set-other}
 use lib.Dec.{ltb}
-use borrow.Author.Tests.{ltb-true, ltb-false}
+use borrow.Author.Tests.{ltb-true, ltb-false, lt-ltb, le-ltb}
 use Rattle.lists.specs.Lists.{choose}
 use Rattle.types.specs.Capacities.{mostPending}
 use Rattle.types.specs.declared.Storage.{Storage}
 use Rattle.rules.specs.Inner.{Reply, atStart, nobody}
 use Rattle.rules.specs.Link.{Durable, fresh, durableOf}
-use Rattle.link_tables.specs.Rows.{RowLaid, TableLaid, orders, replied, rulesIn, startEvent, startValue}
+use Rattle.link_tables.specs.Rows.{RowLaid, TableLaid, orders, replied, rulesIn, firstOf, startEvent, startValue}
 use Rattle.link_tables.proofs.Told.{zero-laid}
 use Rattle.link_tables.proofs.Replies.{start-is, row-replies, none-replies}
 use Rattle.link_rows.specs.Rows.{rowSize, pendingIn, numberIn, storageIn, durableIn, HeadLaid}
 use Rattle.link_rows.proofs.Heads.{sendable-same}
 use Rattle.sys_rows.specs.Rows.{storedIn, TailLaid, RowsLaid, Settled}
 use Rattle.sys_rows.proofs.Laws.{aside, aside-head, tail-at, tail-marks}
-use Rattle.sys_wake.specs.Starts.{begun, Loaded, startPlace, startRow}
+use Rattle.sys_moves.proofs.Taken.{timers-small}
+use Rattle.sys_wake.specs.Starts.{begun, Loaded, savedIn, startPlace, startRow}
 
 -- ---- marks beside a durable part
 -- Mark 5 alone.
@@ -124,7 +125,7 @@ fresh-laid p e = record {
 
 module _ (w k : List ℕ) (p q : List (List ℕ)) (live : RowsLaid w p) (kept : RowsLaid k q) where
   few : getD w 6 0 < 4294967296
-  few = let z = tail-at w 2 in let y = live .tail .timers in omega arith
+  few = timers-small w p live
 
   pub loaded-fresh : getD k 5 0 ≡ 0 → Loaded w k q (set (set (set freshRow 5 (getD w 5 0)) 6 (getD w 6 0)) 7 0) p
   loaded-fresh e = rw (begun-none k q e, ← fresh-is p) (marked freshRow p (fresh-laid p (live .places)) (getD w 5 0) (getD w 6 0) few w refl)
@@ -182,3 +183,42 @@ module _ (t : List (List ℕ)) (rules : ℕ) (laid : TableLaid t rules) (s : Sto
       go false e =
           let h = ltb-false at rules e in
           by _ _ (start-is (rulesIn t rules) s ∙ none-replies (startEvent s) 0 nobody (startValue s) t rules at laid refl h) zero-laid refl refl
+
+  pub starts-by : (r : List ℕ) (value : ℕ) → r ≡ startRow t rules s → value ≡ startValue s → Starts (atStart (rulesIn t rules) s) r value
+  starts-by r value e f = rw (e, f) starts
+
+-- ---- its event and its value, in a row
+module _ (w : List ℕ) where
+  pub value-none : getD w 2 0 ≡ 0 → 0 ≡ startValue (savedIn w)
+  unfolding startValue storageIn
+  value-none e = rw e
+
+  pub value-some : (getD w 2 0 ≡ 0 → ⊥) → getD w 3 0 ≡ startValue (savedIn w)
+  unfolding startValue storageIn
+  value-some n = go (getD w 2 0) n
+    where
+      go : (m : ℕ) → (m ≡ 0 → ⊥) → getD w 3 0 ≡ startValue (storageIn m (getD w 3 0))
+      go zero n = absurd (n refl)
+      go (suc m) n = refl
+
+  event-is : getD w 2 0 ≤ 1 → getD w 2 0 ≡ startEvent (savedIn w)
+  unfolding startEvent storageIn
+  event-is h = go (getD w 2 0) h
+    where
+      go : (m : ℕ) → m ≤ 1 → m ≡ startEvent (storageIn m (getD w 3 0))
+      go zero h = refl
+      go (suc m) h = omega arith
+
+-- The row that is found, or that of zeros.
+module _ (t : List (List ℕ)) (rules : ℕ) (w : List ℕ) (value : ℕ) (saves : getD w 2 0 ≤ 1) (v : value ≡ startValue (savedIn w)) (at : ℕ)
+    (found : at ≡ firstOf (getD w 2 0) 0 value (rulesIn t rules)) where
+  at-start : at ≡ startPlace t rules (savedIn w)
+  at-start = found ∙ (λ j. firstOf (event-is w saves j) 0 (v j) (rulesIn t rules))
+
+  pub row-found : at < rules → getD t at [] ≡ startRow t rules (savedIn w)
+  unfolding startRow choose
+  row-found h = rw (← at-start, lt-ltb at rules h)
+
+  pub row-none : rules ≤ at → replicate 16 0 ≡ startRow t rules (savedIn w)
+  unfolding startRow choose
+  row-none h = rw (← at-start, le-ltb at rules h)

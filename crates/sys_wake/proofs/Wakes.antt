@@ -1,12 +1,13 @@
 -- A start and a recovery, in any system that holds the rows.
 -- Assumes nothing.
-use Prim.Native.Nat.{ℕ}
+use Prim.Native.Nat.{ℕ, _%_}
 use native.Mathlib.Omega.{arith}
 use mathlib.Core.Path.{_≡_, refl, sym, ap, _∙_}
 use mathlib.Core.Bool.{Bool, true, false}
 use mathlib.Core.List.{List, _∷_}
 use lib.ListN.{length, getD, set}
 use lib.Seq.{getD-set-same, getD-set-other, set-getD, set-set}
+use borrow.Author.Tests.{eq-eqb, ne-eqb}
 use Rattle.types.specs.Capacities.{mostPending, network}
 use Rattle.types.specs.declared.Id.{Id}
 use Rattle.types.specs.declared.Kind.{Kind}
@@ -17,7 +18,7 @@ use Rattle.types.specs.declared.InnerCommand.{InnerCommand}
 use Rattle.answers.specs.declared.Answer.the-variants.{Live}
 use Rattle.answers.specs.Answers.{isDone}
 use Rattle.rules.specs.Outcome.{Outcome, done, refused, bind, guard}
-use Rattle.rules.specs.Inner.{Reply, atStart}
+use Rattle.rules.specs.Inner.{Reply, atStart, nobody}
 use Rattle.rules.specs.Timers.{setTimer}
 use Rattle.rules.specs.Network.{Net}
 use Rattle.rules.specs.Link.{Durable, fresh, durableOf, Output, Link, Did, output, startedBy, starting, onStart}
@@ -25,7 +26,7 @@ use Rattle.rules.specs.System.{Actor, Sys, systems, withTimers, withLink, withM
 use Rattle.link_timers.specs.Views.{listed}
 use Rattle.net_rows.specs.declared.Sent.{Sent}
 use Rattle.net_rows.specs.Views.{netOf, roomOf}
-use Rattle.link_tables.specs.Rows.{mark}
+use Rattle.link_tables.specs.Rows.{mark, orders}
 use Rattle.link_rows.specs.Rows.{durableIn}
 use Rattle.sys_seat.specs.Seat.{Around, holding}
 use Rattle.sys_seat.proofs.Seats.{run-set}
@@ -34,10 +35,10 @@ use Rattle.sys_emits.proofs.Laws.{not-both}
 use Rattle.sys_reacts.specs.Views.{limitsOf}
 use Rattle.sys_rows.specs.Rows.{storedIn, actorOf, RowsLaid, Settled}
 use Rattle.sys_rows.proofs.Laws.{aside}
-use Rattle.sys_moves.specs.Views.{capsOf, Rows, rowsOf, actorAt, sysAt, running, reacting, Fine, Ended, lastThen, Stepped, Woken}
-use Rattle.sys_moves.proofs.Ends.{ended-refused}
-use Rattle.sys_wake.specs.Starts.{begun, Loaded}
-use Rattle.sys_wake.proofs.Loads.{mark-laid}
+use Rattle.sys_moves.specs.Views.{capsOf, Rows, rowsOf, actorAt, sysAt, running, reacting, Fine, Acted, lastThen, Stepped, Woken}
+use Rattle.sys_moves.proofs.Ends.{ended-by, ended-refused}
+use Rattle.sys_wake.specs.Starts.{begun, Loaded, savedIn}
+use Rattle.sys_wake.proofs.Loads.{mark-laid, Starts}
 
 -- A start of the rules on the actor that the rows are.
 abbrev pub waking : (me : Id) → Kind → ℕ → List Rule → Rows → Around me → LastMessage → Outcome Sys
@@ -102,6 +103,18 @@ module _ (me : Id) (kind : Kind) (used : ℕ) (rs : List Rule) (hall : Around me
         storage = storedIn (getD (x .kept) 5 0) (durableIn (x .kept) (x .stored));
       }))
 
+-- A rule's commands on loaded rows are a start.
+module _ (me : Id) (kind : Kind) (used n : ℕ) (rs : List Rule) (x : Rows) (t : ℕ) (set-to : listed t ≡ setTimer network (listed (getD (x .live) 6 0)))
+    (loaded : durableIn (x .live) (x .pend) ≡ begun (x .kept) (x .stored))
+    (row : List ℕ) (value : ℕ) (st : Starts (atStart rs (savedIn (x .live))) row value) where
+  pub woken-by : (count : ℕ) (r : Sent) (z : Rows)
+      → Acted me (reacting me kind (orders row nobody value) t (getD row 4 0) used x) (λ last. last) kind used n x r z
+      → Woken count me rs kind used n x r z
+  unfolding durableIn
+  woken-by count r z acted =
+      ended-by me count rs (waking me kind used rs x) (λ last. last) kind used n x (reacting me kind (orders row nobody value) t (getD row 4 0) used x) r z acted
+      (λ hall size last. start-runs me kind used rs hall last x t set-to loaded (orders row nobody value) (getD row 4 0) (st .out) (st .state))
+
 -- ---- a start, from the one on loaded rows
 module _ (count : ℕ) (me : Id) (rs : List Rule) (kind : Kind) (used n : ℕ) (x : Rows) (v : List ℕ) (y : List (List ℕ))
     (loaded : Loaded (x .live) (x .kept) (x .stored) v y) where
@@ -137,6 +150,12 @@ module _ (count : ℕ) (me : Id) (rs : List Rule) (kind : Kind) (used n : ℕ) (
         }
 
 -- ---- a recovery
+pub is-live : (m : ℕ) → m % 2 ≡ 0 → mark m ≡ false
+is-live m e = ne-eqb (m % 2) 1 (λ f. omega arith)
+
+pub is-crashed : (m : ℕ) → (m % 2 ≡ 0 → ⊥) → mark m ≡ true
+is-crashed m n = eq-eqb (m % 2) 1 (omega arith)
+
 module _ (count : ℕ) (i : Id) (rs : List Rule) (kind : Kind) (used n : ℕ) (x : Rows) (fine : Fine kind used n x) where
   abbrev w : List ℕ
   w = x .live

@@ -1,50 +1,50 @@
+use mathlib.Core.Path.{_≡_}
+use lib.ListN.{length}
+use Rattle.types.specs.Capacities.{mostPending}
+use Rattle.sys_wake.proofs.Loads.{loaded-fresh, loaded-stored}
 use borrow.Author.Needs.{needs}
 use Rattle.sys_wake.proofs.load.Statement.{statement}
 use Rattle.sys_wake.proofs.load.Tie as tie
-use Rattle.sys_wake.proofs.load.Reads as reads
-use Rattle.sys_wake.proofs.load.Lts as lts
-use Rattle.link_rows.proofs.copy_records.Reads as copy-records-reads
-use Rattle.sys_wake.proofs.put_marks.Reads as put-marks-reads
 
--- src/lib.rt:51:16
 element-copy-out-mark : tie.Need-element-copy-out-mark
 element-copy-out-mark c = search needs
 
--- src/lib.rt:52:18
 element-copy-out-timers : tie.Need-element-copy-out-timers
 element-copy-out-timers c = search needs
 
--- src/lib.rt:53:8
 element-copy-out-if1 : tie.Need-element-copy-out-if1
 element-copy-out-if1 c = search needs
 
--- src/lib.rt:55:9
 element-write-live : tie.Need-element-write-live
 element-write-live c = search needs
 
--- src/lib.rt:56:9
 put-marks-requires : tie.Need-put-marks-requires
 put-marks-requires c κs = search needs
 
--- src/lib.rt:57:9
 returns : tie.Need-returns
-returns c = ?
+returns c =
+    let s = c .before .before .before .before .before .before .before in
+    let a = s .args in
+    rw (c .put-marks .ensures) (loaded-fresh (a .live .now) (a .kept .now) (a .pend .now) (a .stored .now) (s .pre .0) (s .pre .1) (c .before .before .before .if1 .taken))
 
--- src/lib.rt:60:5
 put-marks-requires-2 : tie.Need-put-marks-requires-2
 put-marks-requires-2 c κs = search needs
 
--- src/lib.rt:61:32
 element-copy-out-copy-records : tie.Need-element-copy-out-copy-records
 element-copy-out-copy-records c = search needs
 
--- src/lib.rt:61:5
 copy-records-requires : tie.Need-copy-records-requires
 copy-records-requires c κs = search needs
 
--- src/lib.rt:42:1
 returns-2 : tie.Need-returns-2
-returns-2 c = ?
+returns-2 c =
+    let s = c .before .before .before .before .before .before .before .before .before .before .before in
+    let a = s .args in
+    let p' = c .copy-records .last .1 .0 in
+    let places : length p' ≡ mostPending = search (needs, s .pre .0 .places) in
+    rw (c .before .before .before .before .put-marks2 .ensures)
+    (loaded-stored (a .live .now) (a .kept .now) (a .pend .now) (a .stored .now) (s .pre .0) (s .pre .1) p' (c .copy-records .ensures) places
+    (c .before .before .before .before .before .before .before .if1 .left))
 
 pub load-spec : {M : Type 1} → statement M
 load-spec =

@@ -1,42 +1,56 @@
+use mathlib.Core.Path.{sym, _∙_}
+use Rattle.link_tables.specs.Rows.{rulesIn}
+use Rattle.sys_moves.specs.Views.{Rows, rowsOf}
+use Rattle.sys_wake.proofs.Wakes.{bare-fine, is-live, is-crashed, stepped-live, stepped-done, stepped-back}
 use borrow.Author.Needs.{needs}
 use Rattle.sys_wake.proofs.recover.Statement.{statement}
 use Rattle.sys_wake.proofs.recover.Tie as tie
-use Rattle.sys_wake.proofs.recover.Reads as reads
-use Rattle.sys_wake.proofs.recover.Lts as lts
-use Rattle.answers.proofs.is_done.Reads as is-done-reads
-use Rattle.sys_wake.proofs.wake.Reads as wake-reads
 
--- src/lib.rt:192:16
 element-copy-out-mark : tie.Need-element-copy-out-mark
 element-copy-out-mark c = search needs
 
--- src/lib.rt:194:9
 returns : tie.Need-returns
-returns c = ?
+returns c =
+    let s = c .before .before in
+    let a = s .args in
+    let x : Rows = rowsOf (a .c .now) (a .live .now) (a .pend .now) (a .kept .now) (a .stored .now) in
+    stepped-live (a .count) (a .i) (rulesIn (a .table .now) (a .rules)) (a .kind) (a .used) (a .len) x (s .pre .0) (is-live _ (c .if1 .taken))
 
--- src/lib.rt:200:5
 element-write-live : tie.Need-element-write-live
 element-write-live c = search needs
 
--- src/lib.rt:201:9
 wake-requires : tie.Need-wake-requires
-wake-requires c κs = ?
+wake-requires c κs =
+    let s = c .before .before .before .before .before .before .before in
+    let a = s .args in
+    let x : Rows = rowsOf (a .c .now) (a .live .now) (a .pend .now) (a .kept .now) (a .stored .now) in
+    (bare-fine (a .count) (a .i) (rulesIn (a .table .now) (a .rules)) (a .kind) (a .used) (a .len) x (s .pre .0), s .pre .1)
 
--- src/lib.rt:203:8
 is-done-requires : tie.Need-is-done-requires
 is-done-requires c κs = search needs
 
--- src/lib.rt:204:9
 returns-2 : tie.Need-returns-2
-returns-2 c = ?
+returns-2 c =
+    let s = c .before .before .before .before .before .before .before .before .before .before in
+    let a = s .args in
+    let x : Rows = rowsOf (a .c .now) (a .live .now) (a .pend .now) (a .kept .now) (a .stored .now) in
+    let z : Rows = rowsOf (c .before .before .wake .last .0) (c .before .before .wake .last .1 .0) (c .before .before .wake .last .1 .1 .0) (c .before .before .wake .last .1 .1 .1 .0)
+        (c .before .before .wake .last .1 .1 .1 .1 .0) in
+    stepped-done (a .count) (a .i) (rulesIn (a .table .now) (a .rules)) (a .kind) (a .used) (a .len) x (s .pre .0) (is-crashed _ (c .before .before .before .before .before .before .before .before .if1 .left)) (c .before .before .wake .result) z (c .before .before .wake .ensures (a .count))
+    (sym (c .before .is-done .ensures) ∙ c .if2 .taken)
 
--- src/lib.rt:206:5
 element-write-live-2 : tie.Need-element-write-live-2
 element-write-live-2 c = search needs
 
--- src/lib.rt:173:1
 returns-3 : tie.Need-returns-3
-returns-3 c = ?
+returns-3 c =
+    let s = c .before .before .before .before .before .before .before .before .before .before in
+    let a = s .args in
+    let x : Rows = rowsOf (a .c .now) (a .live .now) (a .pend .now) (a .kept .now) (a .stored .now) in
+    let z : Rows = rowsOf (c .before .before .wake .last .0) (c .before .before .wake .last .1 .0) (c .before .before .wake .last .1 .1 .0) (c .before .before .wake .last .1 .1 .1 .0)
+        (c .before .before .wake .last .1 .1 .1 .1 .0) in
+    stepped-back (a .count) (a .i) (rulesIn (a .table .now) (a .rules)) (a .kind) (a .used) (a .len) x (s .pre .0) (is-crashed _ (c .before .before .before .before .before .before .before .before .if1 .left)) (c .before .before .wake .result) z (c .before .before .wake .ensures (a .count))
+    (sym (c .before .is-done .ensures) ∙ c .if2 .left)
 
 pub recover-spec : {M : Type 1} → statement M
 recover-spec =

@@ -1,48 +1,57 @@
+use native.Mathlib.Omega.{arith}
+use Rattle.link_tables.specs.Rows.{rulesIn}
+use Rattle.sys_moves.specs.Views.{Rows, rowsOf}
+use Rattle.sys_moves.proofs.Taken.{timers-small}
+use Rattle.sys_wake.specs.Starts.{savedIn}
+use Rattle.sys_wake.proofs.Loads.{starts-by}
+use Rattle.sys_wake.proofs.Wakes.{woken-by}
 use borrow.Author.Needs.{needs}
 use Rattle.sys_wake.proofs.start.Statement.{statement}
 use Rattle.sys_wake.proofs.start.Tie as tie
-use Rattle.sys_wake.proofs.start.Reads as reads
-use Rattle.sys_wake.proofs.start.Lts as lts
-use Rattle.sys_moves.proofs.by_rule.Reads as by-rule-reads
-use Rattle.sys_wake.proofs.start_row.Reads as start-row-reads
-use Rattle.sys_wake.proofs.start_value.Reads as start-value-reads
-use Rattle.sys_wake.proofs.with_network.Reads as with-network-reads
 
--- src/lib.rt:117:31
 element-copy-out-with-network : tie.Need-element-copy-out-with-network
 element-copy-out-with-network c = search needs
 
--- src/lib.rt:117:31
 cast-with-network : tie.Need-cast-with-network
-cast-with-network c = ?
+cast-with-network c = let s = c .before in let z = timers-small (s .args .live .now) (s .args .pend .now) (s .pre .0 .live) in search needs
 
--- src/lib.rt:117:9
 with-network-requires : tie.Need-with-network-requires
 with-network-requires c κs = search needs
 
--- src/lib.rt:118:9
 start-value-requires : tie.Need-start-value-requires
 start-value-requires c κs = search needs
 
--- src/lib.rt:119:15
 start-row-requires : tie.Need-start-row-requires
 start-row-requires c κs = search needs
 
--- src/lib.rt:120:17
 array-read-state : tie.Need-array-read-state
 array-read-state c = search needs
 
--- src/lib.rt:127:9
 slice-aggregate-by-rule : tie.Need-slice-aggregate-by-rule
 slice-aggregate-by-rule c = search needs
 
--- src/lib.rt:121:5
 by-rule-requires : tie.Need-by-rule-requires
-by-rule-requires c κs = ?
+by-rule-requires c κs =
+    let s = c .before .before .before .before .before .before .before .before .before .before .before .before .before .before .before in
+    let a = s .args in
+    let x : Rows = rowsOf (a .c .now) (a .live .now) (a .pend .now) (a .kept .now) (a .stored .now) in
+    let st = starts-by (a .table .now) (a .rules) (s .pre .1) (savedIn (a .live .now)) (c .before .before .before .before .before .before .start-row .result) (c .before .before .before .before .before .before .before .before .before .before .start-value .result)
+        (c .before .before .before .before .before .before .start-row .ensures) (c .before .before .before .before .before .before .before .before .before .before .start-value .ensures) in
+    let z = st .laid .next in
+    (s .pre .0, st .laid, omega arith)
 
--- src/lib.rt:98:1
 returns : tie.Need-returns
-returns c = ?
+returns c =
+    let s = c .before .before .before .before .before .before .before .before .before .before .before .before .before .before .before .before in
+    let a = s .args in
+    let x : Rows = rowsOf (a .c .now) (a .live .now) (a .pend .now) (a .kept .now) (a .stored .now) in
+    let st = starts-by (a .table .now) (a .rules) (s .pre .1) (savedIn (a .live .now)) (c .before .before .before .before .before .before .before .start-row .result) (c .before .before .before .before .before .before .before .before .before .before .before .start-value .result)
+        (c .before .before .before .before .before .before .before .start-row .ensures) (c .before .before .before .before .before .before .before .before .before .before .before .start-value .ensures) in
+    let z : Rows = rowsOf (c .by-rule .last .0) (c .by-rule .last .1 .0) (c .by-rule .last .1 .1 .0) (c .by-rule .last .1 .1 .1 .0)
+        (c .by-rule .last .1 .1 .1 .1 .0) in
+    λ count. woken-by (a .me) (a .kind) (a .used) (a .len) (rulesIn (a .table .now) (a .rules)) x (c .before .before .before .before .before .before .before .before .before .before .before .before .before .before .with-network .result)
+        (c .before .before .before .before .before .before .before .before .before .before .before .before .before .before .with-network .ensures) (s .pre .2) (c .before .before .before .before .before .before .before .start-row .result) (c .before .before .before .before .before .before .before .before .before .before .before .start-value .result) st
+        count (c .by-rule .result) z (c .by-rule .ensures)
 
 pub start-spec : {M : Type 1} → statement M
 start-spec =
