@@ -1,0 +1,208 @@
+// A start and a recovery on lent rows: the live rows are loaded from what is stored, and the rule of a start runs on them.
+use answers::Answer;
+use answers::is_done;
+use link_rows::RECORD;
+use link_rows::ROW;
+use link_rows::copy_records;
+use link_tables::first_match;
+use link_timers::Timers;
+use net_rows::Sent;
+use sys_moves::by_rule;
+use types::Id;
+use types::Kind;
+use types::MOST_ENTRIES;
+use types::MOST_PENDING;
+use types::MOST_RULES;
+use types::NETWORK;
+ghost use mathlib.Core.Path.{_≡_};
+ghost use Prim.Native.Nat.{ℕ, _≤_, _<_};
+ghost use lib.ListN.{length, getD, set};
+ghost use Rattle.types.specs.Capacities.{network};
+ghost use Rattle.types.specs.declared.Action.the-variants.{Recover};
+ghost use Rattle.rules.specs.Timers.{setTimer};
+ghost use Rattle.link_timers.specs.Views.{listed};
+ghost use Rattle.link_tables.specs.Rows.{TableLaid, rulesIn, startValue};
+ghost use Rattle.link_rows.specs.Rows.{rowSize, durableIn};
+ghost use Rattle.sys_rows.specs.Rows.{RowsLaid};
+ghost use Rattle.sys_moves.specs.Views.{rowsOf, Fine, Stepped, Woken};
+ghost use Rattle.sys_wake.specs.Starts.{begun, Loaded, savedIn, startRow};
+
+// ---- what is stored becomes live
+// Mark and timers are put in place, and state 0.
+fn put_marks(live: &mut [u64], mark: u64, timers: u64)
+    requires { ⌜ length (now live) ≡ rowSize ⌝ }
+    ensures { λ _. ⌜ now (live .exit) ≡ set (set (set (now (live .entry)) 5 mark) 6 timers) 7 0 ⌝ }
+{
+    live[5] = mark;
+    live[6] = timers;
+    live[7] = 0;
+}
+
+// The live rows become what is stored, or the fresh durable part where nothing is. Mark and timers stay.
+pub fn load(
+    live: &mut [u64; ROW],
+    pend: &mut [[u64; RECORD]; MOST_PENDING],
+    kept: &[u64; ROW],
+    stored: &[[u64; RECORD]; MOST_PENDING],
+)
+    requires { ⌜ RowsLaid (now live) (now pend) × RowsLaid (now kept) (now stored) ⌝ }
+    ensures { λ _. ⌜ Loaded (now (live .entry)) (now (kept .entry)) (now (stored .entry)) (now (live .exit)) (now (pend .exit)) ⌝ }
+{
+    let mark = live[5];
+    let timers = live[6];
+    if kept[5] == 0 {
+        *live = [0u64; ROW];
+        live[0] = 1;
+        put_marks(live, mark, timers);
+        return;
+    }
+    *live = *kept;
+    put_marks(live, mark, timers);
+    copy_records(stored, pend, kept[1] as usize);
+}
+
+// ---- the rule of a start
+// The timers with Network set.
+fn with_network(timers: u32) -> u32
+    ensures { λ r. ⌜ listed r ≡ setTimer network (listed timers) ⌝ }
+{
+    let h = Timers(timers).set(NETWORK);
+    let w = h.timers;
+    w.0
+}
+
+// The value of a start: what the inner actor has saved, or 0.
+fn start_value(live: &[u64]) -> u32
+    requires { ⌜ (length (now live) ≡ rowSize) × (getD (now live) 3 0 < 4294967296) ⌝ }
+    ensures { λ r. ⌜ r ≡ startValue (savedIn (now (live .entry))) ⌝ }
+{
+    if live[2] == 0 {
+        return 0;
+    }
+    live[3] as u32
+}
+
+// The row that decides a start. Its event is 0 where nothing is saved, else 1: place 2 has just that.
+fn start_row(live: &[u64], table: &[[u64; 16]], rules: usize, value: u32) -> [u64; 16]
+    requires { ⌜ (length (now live) ≡ rowSize) × (getD (now live) 2 0 ≤ 1) × TableLaid (now table) rules × (value ≡ startValue (savedIn (now live))) ⌝ }
+    ensures { λ r. ⌜ r ≡ startRow (now (table .entry)) rules (savedIn (now (live .entry))) ⌝ }
+{
+    let at = first_match(table, rules, live[2], 0, value as u64);
+    if at < rules {
+        return table[at];
+    }
+    [0; 16]
+}
+
+// A start on live rows that are loaded: 6, 7 or 8 and nothing changed, or all of it done.
+fn start(
+    c: &mut [[u64; 4]; MOST_ENTRIES],
+    live: &mut [u64; ROW],
+    pend: &mut [[u64; RECORD]; MOST_PENDING],
+    kept: &mut [u64; ROW],
+    stored: &mut [[u64; RECORD]; MOST_PENDING],
+    table: &[[u64; 16]; MOST_RULES],
+    rules: usize,
+    kind: Kind,
+    used: usize,
+    len: u64,
+    me: Id,
+) -> Sent
+    requires { ⌜ Fine kind used len (rowsOf (now c) (now live) (now pend) (now kept) (now stored)) × TableLaid (now table) rules
+        × (durableIn (now live) (now pend) ≡ begun (now kept) (now stored)) ⌝ }
+    ensures { λ r. ⌜ ((count : ℕ) → Woken count me (rulesIn (now (table .entry)) rules) kind used len
+        (rowsOf (now (c .entry)) (now (live .entry)) (now (pend .entry)) (now (kept .entry)) (now (stored .entry)))
+        r (rowsOf (now (c .exit)) (now (live .exit)) (now (pend .exit)) (now (kept .exit)) (now (stored .exit)))) ⌝ }
+{
+    let timers = with_network(live[6] as u32);
+    let value = start_value(live);
+    let row = start_row(live, table, rules, value);
+    let state = row[4];
+    by_rule(
+        c,
+        live,
+        pend,
+        kept,
+        stored,
+        &row,
+        kind,
+        used,
+        len,
+        timers,
+        me,
+        Id(0),
+        value,
+        state,
+    )
+}
+
+// ---- a start, and a recovery
+// A start on what is stored: 6, 7 or 8 and nothing changed, or all of it done.
+pub fn wake(
+    c: &mut [[u64; 4]; MOST_ENTRIES],
+    live: &mut [u64; ROW],
+    pend: &mut [[u64; RECORD]; MOST_PENDING],
+    kept: &mut [u64; ROW],
+    stored: &mut [[u64; RECORD]; MOST_PENDING],
+    table: &[[u64; 16]; MOST_RULES],
+    rules: usize,
+    kind: Kind,
+    used: usize,
+    len: u64,
+    me: Id,
+) -> Sent
+    requires { ⌜ Fine kind used len (rowsOf (now c) (now live) (now pend) (now kept) (now stored)) × TableLaid (now table) rules ⌝ }
+    ensures { λ r. ⌜ ((count : ℕ) → Woken count me (rulesIn (now (table .entry)) rules) kind used len
+        (rowsOf (now (c .entry)) (now (live .entry)) (now (pend .entry)) (now (kept .entry)) (now (stored .entry)))
+        r (rowsOf (now (c .exit)) (now (live .exit)) (now (pend .exit)) (now (kept .exit)) (now (stored .exit)))) ⌝ }
+{
+    let old = *live;
+    let olds = *pend;
+    load(live, pend, kept, stored);
+    let s = start(c, live, pend, kept, stored, table, rules, kind, used, len, me);
+    let a = s.answer;
+    if is_done(a) {
+        return s;
+    }
+    *live = old;
+    *pend = olds;
+    s
+}
+
+// A recovery: 4 where the actor is not crashed; else the mark goes, and it is a start. The mark is there again after a refusal.
+pub fn recover(
+    c: &mut [[u64; 4]; MOST_ENTRIES],
+    live: &mut [u64; ROW],
+    pend: &mut [[u64; RECORD]; MOST_PENDING],
+    kept: &mut [u64; ROW],
+    stored: &mut [[u64; RECORD]; MOST_PENDING],
+    table: &[[u64; 16]; MOST_RULES],
+    rules: usize,
+    kind: Kind,
+    used: usize,
+    len: u64,
+    count: usize,
+    i: Id,
+) -> Sent
+    requires { ⌜ Fine kind used len (rowsOf (now c) (now live) (now pend) (now kept) (now stored)) × TableLaid (now table) rules × (i .0 < count) ⌝ }
+    ensures { λ r. ⌜ Stepped count (Recover i) i (rulesIn (now (table .entry)) rules) kind used len
+        (rowsOf (now (c .entry)) (now (live .entry)) (now (pend .entry)) (now (kept .entry)) (now (stored .entry)))
+        r (rowsOf (now (c .exit)) (now (live .exit)) (now (pend .exit)) (now (kept .exit)) (now (stored .exit))) ⌝ }
+{
+    let mark = live[5];
+    if mark % 2 == 0 {
+        return Sent {
+            answer: Answer::Live,
+            used: used,
+            len: len,
+        };
+    }
+    live[5] = 0;
+    let s = wake(c, live, pend, kept, stored, table, rules, kind, used, len, i);
+    let a = s.answer;
+    if is_done(a) {
+        return s;
+    }
+    live[5] = mark;
+    s
+}
