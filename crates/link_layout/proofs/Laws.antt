@@ -62,7 +62,7 @@ fourth m zero d h k = omega arith
 fourth m (suc zero) d h k = omega arith
 fourth m (suc (suc n)) d h k = absurd (omega arith)
 
-pub command-back : (c : RuleCommand) → commandIn (wordsOf c .head) (wordsOf c .word) ≡ c
+command-back : (c : RuleCommand) → commandIn (wordsOf c .head) (wordsOf c .word) ≡ c
 unfolding commandIn wordsOf
 command-back (SetTimer t) =
     let k : 16 * t % 4 ≡ 0 = omega arith in
@@ -92,14 +92,14 @@ command-back (Save b v) = go (flag b) (flag-few b) refl
 
 -- What it counts for, whatever is filled in.
 module _ (source : Id) (value : ℕ) where
-  pub sends-one : (c : RuleCommand) (os : List InnerCommand) → sends (told source value c ∷ os) ≡ wordsOf c .sent + sends os
+  sends-one : (c : RuleCommand) (os : List InnerCommand) → sends (told source value c ∷ os) ≡ wordsOf c .sent + sends os
   unfolding sends told wordsOf
   sends-one (SetTimer t) os = omega arith
   sends-one (CancelTimer t) os = omega arith
   sends-one (Send a d b p) os = omega arith
   sends-one (Save b v) os = omega arith
 
-  pub keeps-one : (c : RuleCommand) (os : List InnerCommand) (n : ℕ) → any durably os ≡ ltb 0 n
+  keeps-one : (c : RuleCommand) (os : List InnerCommand) (n : ℕ) → any durably os ≡ ltb 0 n
       → any durably (told source value c ∷ os) ≡ ltb 0 (wordsOf c .kept + n)
   unfolding any durably told wordsOf
   keeps-one (SetTimer t) os n e = let z : n ≡ 0 + n = omega arith in rw (← z) e
@@ -108,13 +108,13 @@ module _ (source : Id) (value : ℕ) where
   keeps-one (Save b v) os n e = sym (lt-ltb 0 (1 + n) (omega arith))
 
 -- ---- what a sound rule's test says
-pub record Good (r : Rule) : Type 0 where
-  pub state : r .state ≤ lastState
-  pub next : r .next ≤ lastState
-  pub used : r .used ≤ mostCommands
-  pub rest : all unused (drop (r .used) (r .commands)) ≡ true
+record Good (r : Rule) : Type 0 where
+  state : r .state ≤ lastState
+  next : r .next ≤ lastState
+  used : r .used ≤ mostCommands
+  rest : all unused (drop (r .used) (r .commands)) ≡ true
 
-pub good : (r : Rule) → ruleOk r ≡ true → Good r
+good : (r : Rule) → ruleOk r ≡ true → Good r
 unfolding ruleOk
 good r e =
     let a = every-cons _ _ e in let b = every-cons _ _ (a .1) in let c = every-cons _ _ (b .1) in let d = every-cons _ _ (c .1) in
@@ -162,6 +162,9 @@ sends-keep (inner.Send d p) os ps e = ap suc e
 
 -- ---- the row of a sound rule
 module _ (r : Rule) (room : length (r .commands) ≡ mostCommands) (fine : Good r) where
+  abbrev at : ℕ → RuleCommand
+  at i = commandIs (getD (r .commands) i zeroSlot)
+
   -- Its places are those of its commands.
   slots-are : r .commands ≡ slotsOf (commandsOf r)
   unfolding slotsOf commandsOf pad
@@ -177,10 +180,10 @@ module _ (r : Rule) (room : length (r .commands) ≡ mostCommands) (fine : Good 
   commands-are : take (r .used) (commandsIn (rowOf r)) ≡ commandsOf r
   unfolding commandsIn rowOf commandsOf
   commands-are =
-      rw (command-back (commandIs (getD (r .commands) 0 zeroSlot)), command-back (commandIs (getD (r .commands) 1 zeroSlot)), command-back (commandIs (getD (r .commands) 2 zeroSlot)), command-back (commandIs (getD (r .commands) 3 zeroSlot)), ← all-four (r .commands) room)
+      rw (command-back (at 0), command-back (at 1), command-back (at 2), command-back (at 3), ← all-four (r .commands) room)
       (take-map commandIs (r .used) (r .commands))
 
-  pub rule-back : ruleIn (rowOf r) ≡ r
+  rule-back : ruleIn (rowOf r) ≡ r
   unfolding ruleIn rowOf
   rule-back =
       let s = fine .state in
@@ -204,10 +207,7 @@ module _ (r : Rule) (room : length (r .commands) ≡ mostCommands) (fine : Good 
         ∙ rest-skipped f source value skip keep (r .used) (r .commands) (fine .rest)
         ∙ ap (λ (l : List RuleCommand). f (say l)) (all-four (r .commands) room)
 
-    -- The command at a place, and what is said from a place on.
-    abbrev at : ℕ → RuleCommand
-    at i = commandIs (getD (r .commands) i zeroSlot)
-
+    -- What is said from a place on.
     abbrev from : ℕ → List InnerCommand
     from i = drop i (say (fourOf (r .commands)))
 
@@ -225,7 +225,7 @@ module _ (r : Rule) (room : length (r .commands) ≡ mostCommands) (fine : Good 
     unfolding rowOf any durably
     durable-is =
         let z : wordsAt r 0 .kept + wordsAt r 1 .kept + wordsAt r 2 .kept + wordsAt r 3 .kept
-            ≡ wordsAt r 0 .kept + (wordsAt r 1 .kept + (wordsAt r 2 .kept + (wordsAt r 3 .kept + 0))) = omega arith in
+        ≡ wordsAt r 0 .kept + (wordsAt r 1 .kept + (wordsAt r 2 .kept + (wordsAt r 3 .kept + 0))) = omega arith in
         let d = keeps-one source value (at 3) [] 0 refl in
         let c = keeps-one source value (at 2) (from 3) _ d in
         let b = keeps-one source value (at 1) (from 2) _ c in
@@ -233,7 +233,7 @@ module _ (r : Rule) (room : length (r .commands) ≡ mostCommands) (fine : Good 
         let e = over-four (any durably) (λ os. refl) (λ x os ps h. ap (λ (t : Bool). durably x || t) h) in
         flag-one _ ∙ ap (ltb 0) z ∙ sym a ∙ sym e
 
-  pub row-laid : Fits (wordsAt r 0) → Fits (wordsAt r 1) → Fits (wordsAt r 2) → Fits (wordsAt r 3) → RowLaid (rowOf r)
+  row-laid : Fits (wordsAt r 0) → Fits (wordsAt r 1) → Fits (wordsAt r 2) → Fits (wordsAt r 3) → RowLaid (rowOf r)
   unfolding rowOf
   row-laid a b c d = record {
     room = refl;
@@ -260,10 +260,14 @@ module _ (r : Rule) (room : length (r .commands) ≡ mostCommands) (fine : Good 
       words (suc (suc (suc (suc i)))) h = absurd (omega arith)
 
 -- What the code lays out.
-pub row-is : (r : Rule) → length (r .commands) ≡ mostCommands → ruleOk r ≡ true → (a b c d : Words) → (a ≡ wordsAt r 0) × Fits a → (b ≡ wordsAt r 1) × Fits b
-    → (c ≡ wordsAt r 2) × Fits c → (d ≡ wordsAt r 3) × Fits d → (x : List ℕ) → x ≡ rowWith r a b c d → (x ≡ rowOf r) × (ruleIn x ≡ r) × RowLaid x
+abbrev At : Rule → ℕ → Words → Type 0
+At r i x = (x ≡ wordsAt r i) × Fits x
+
+pub row-is : (r : Rule) → length (r .commands) ≡ mostCommands → ruleOk r ≡ true
+    → (a b c d : Words) → At r 0 a → At r 1 b → At r 2 c → At r 3 d → (x : List ℕ) → x ≡ rowWith r a b c d → (x ≡ rowOf r) × (ruleIn x ≡ r) × RowLaid x
 unfolding rowOf
 row-is r room ok a b c d p q s t x e =
     let f : x ≡ rowOf r = e ∙ rw (p .0, q .0, s .0, t .0) in
-    let laid = row-laid r room (good r ok) (subst Fits (p .0) (p .1)) (subst Fits (q .0) (q .1)) (subst Fits (s .0) (s .1)) (subst Fits (t .0) (t .1)) in
-    (f, ap ruleIn f ∙ rule-back r room (good r ok), subst RowLaid (sym f) laid)
+    let g = good r ok in
+    let laid = row-laid r room g (subst Fits (p .0) (p .1)) (subst Fits (q .0) (q .1)) (subst Fits (s .0) (s .1)) (subst Fits (t .0) (t .1)) in
+    (f, ap ruleIn f ∙ rule-back r room g, subst RowLaid (sym f) laid)

@@ -26,10 +26,10 @@ abbrev zeros : List ℕ
 zeros = replicate 16 0
 
 -- The row of a rule is the rule, and is laid out.
-abbrev Good : Rule → Type 0
-Good r = (ruleIn (rowOf r) ≡ r) × RowLaid (rowOf r)
+abbrev Back : Rule → Type 0
+Back r = (ruleIn (rowOf r) ≡ r) × RowLaid (rowOf r)
 
-back : (l : List Rule) → ((i : ℕ) → i < length l → Good (getD l i outside)) → map ruleIn (map rowOf l) ≡ l
+back : (l : List Rule) → ((i : ℕ) → i < length l → Back (getD l i outside)) → map ruleIn (map rowOf l) ≡ l
 back [] f = refl
 back (x ∷ l) f = let a = f 0 (omega arith) .0 in let b = back l (λ i h. f (suc i) (omega arith)) in λ j. a j ∷ b j
 
@@ -39,7 +39,7 @@ rows rs n = map rowOf (take n rs)
 -- The first n are laid out.
 pub record Laid (rs : List Rule) (n : ℕ) (out : List (List ℕ)) : Type 0 where
   pub filled : out ≡ pad mostRules zeros (rows rs n)
-  pub good : (i : ℕ) → i < n → Good (getD rs i outside)
+  pub good : (i : ℕ) → i < n → Back (getD rs i outside)
 
 module _ (rs : List Rule) (room : length rs ≡ mostRules) where
   count : (n : ℕ) → n ≤ mostRules → length (rows rs n) ≡ n
@@ -90,9 +90,8 @@ module _ (t : Table) (room : length (t .rules) ≡ mostRules) (ok : tableOk t �
         let u = fit in
         let n = count (t .rules) room (t .used) u in
         let size = ap length (l .filled) ∙ length-pad mostRules zeros (rows (t .rules) (t .used)) (omega arith) in
-        let m = length-take-le (t .used) (t .rules) (omega arith) in
-        (
+        let m = length-take-le (t .used) (t .rules) (omega arith) in (
           ap (map ruleIn) used-rows ∙ back (rulesOf t) (λ i h. rw (getD-take (t .used) (t .rules) i outside (omega arith)) (l .good i (omega arith))),
           record { room = size; fit = omega arith; rows = λ i h. subst RowLaid (sym (row-at i h)) (l .good i h .1) },
-          l .filled
+          l .filled,
         )

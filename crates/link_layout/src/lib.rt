@@ -97,8 +97,22 @@ fn row_with(r: Rule, a: Words, b: Words, c: Words, d: Words) -> [u64; 16]
     let next = r.next as u64;
     let used = r.used as u64;
     [
-        key, low, high, touched, next, used, a.head, a.word, b.head, b.word, c.head, c.word, d.head,
-        d.word, sent, lasting,
+        key,
+        low,
+        high,
+        touched,
+        next,
+        used,
+        a.head,
+        a.word,
+        b.head,
+        b.word,
+        c.head,
+        c.word,
+        d.head,
+        d.word,
+        sent,
+        lasting,
     ]
 }
 
