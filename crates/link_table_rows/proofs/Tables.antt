@@ -20,7 +20,7 @@ use Rattle.link_inner.specs.declared.Table.{Table}
 use Rattle.link_inner.specs.Views.{rulesOf, tableOk}
 use Rattle.link_inner.proofs.Tables.{outside, Fine, table-is}
 use Rattle.link_tables.specs.Rows.{ruleIn, RowLaid, TableLaid, rulesIn}
-use Rattle.link_layout.specs.Layout.{rowOf}
+use Rattle.link_table_rows.specs.Layout.{rowOf}
 
 abbrev zeros : List ℕ
 zeros = replicate 16 0

@@ -7,9 +7,9 @@ use lib.ListN.{length}
 use Rattle.lists.proofs.Places.{length-mapped}
 use Rattle.types.specs.Capacities.{mostRules}
 use Rattle.link_inner.proofs.Tables.{table-is}
-use Rattle.link_layout.proofs.Tables.{Laid, laid-none, laid-next, rule-ok, laid-out}
-use Rattle.link_layout.proofs.rows_of.Statement.{statement}
-use Rattle.link_layout.proofs.rows_of.Tie as tie
+use Rattle.link_table_rows.proofs.Tables.{Laid, laid-none, laid-next, rule-ok, laid-out}
+use Rattle.link_table_rows.proofs.rows_of.Statement.{statement}
+use Rattle.link_table_rows.proofs.rows_of.Tie as tie
 
 abbrev Inv-loop : tie.InvT-loop
 Inv-loop used rules out₀ i₀ out i = (i ≤ used) × Laid rules i out

@@ -27,8 +27,8 @@ use Rattle.rules.specs.WellFormed.{unused, ruleOk}
 use Rattle.link_direct.specs.Direct.{sends}
 use Rattle.link_inner.proofs.Tables.{zero-slot}
 use Rattle.link_tables.specs.Rows.{mark, commandIn, commandsIn, ruleIn, orders, RowLaid}
-use Rattle.link_layout.specs.Layout.{flag, wordsOf, wordsAt, Fits, rowWith, rowOf}
-use Rattle.link_layout.specs.declared.Words.{Words}
+use Rattle.link_table_rows.specs.Layout.{flag, wordsOf, wordsAt, Fits, rowWith, rowOf}
+use Rattle.link_table_rows.specs.declared.Words.{Words}
 
 -- ---- a command
 mark-flag : (n : ℕ) (b : Bool) → n % 2 ≡ flag b → mark n ≡ b

@@ -2,8 +2,8 @@
 use Rattle.lists.specs.Lists.{choose}
 use mathlib.Core.Path.{refl}
 use native.Mathlib.Omega.{arith}
-use Rattle.link_layout.proofs.flag_of.Statement.{statement}
-use Rattle.link_layout.proofs.flag_of.Tie as tie
+use Rattle.link_table_rows.proofs.flag_of.Statement.{statement}
+use Rattle.link_table_rows.proofs.flag_of.Tie as tie
 
 returns : tie.Need-returns
 unfolding choose

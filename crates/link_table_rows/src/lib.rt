@@ -14,7 +14,7 @@ ghost use Rattle.types.specs.Capacities.{mostCommands, mostRules};
 ghost use Rattle.rules.specs.WellFormed.{ruleOk};
 ghost use Rattle.link_inner.specs.Views.{rulesOf, tableOk};
 ghost use Rattle.link_tables.specs.Rows.{ruleIn, RowLaid, TableLaid, rulesIn};
-ghost use Rattle.link_layout.specs.Layout.{flag, wordsOf, wordsAt, Fits, rowWith, rowOf};
+ghost use Rattle.link_table_rows.specs.Layout.{flag, wordsOf, wordsAt, Fits, rowWith, rowOf};
 
 // A command's two words; 1 or 0: whether it sends, and whether it sends or saves.
 struct Words {

@@ -1,7 +1,7 @@
 -- Word by word.
 use borrow.Author.Needs.{needs}
-use Rattle.link_layout.proofs.row_with.Statement.{statement}
-use Rattle.link_layout.proofs.row_with.Tie as tie
+use Rattle.link_table_rows.proofs.row_with.Statement.{statement}
+use Rattle.link_table_rows.proofs.row_with.Tie as tie
 
 add-sent : tie.Need-add-sent
 add-sent c = search needs

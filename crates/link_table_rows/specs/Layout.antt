@@ -10,7 +10,7 @@ use Rattle.types.specs.declared.RuleCommand.{RuleCommand}
 use Rattle.types.specs.declared.RuleCommand.the-variants.{SetTimer, CancelTimer, Send, Save}
 use Rattle.types.specs.declared.Rule.{Rule}
 use Rattle.rules.specs.Inner.{zeroSlot}
-use Rattle.link_layout.specs.declared.Words.{Words}
+use Rattle.link_table_rows.specs.declared.Words.{Words}
 
 abbrev pub flag : Bool → ℕ
 flag b = choose b 1 0

@@ -1,8 +1,8 @@
 -- Each kind of command by its own words; that they fit is what the types say of its numbers.
-use Rattle.link_layout.specs.Layout.{wordsOf}
+use Rattle.link_table_rows.specs.Layout.{wordsOf}
 use borrow.Author.Needs.{needs}
-use Rattle.link_layout.proofs.words_of.Statement.{statement}
-use Rattle.link_layout.proofs.words_of.Tie as tie
+use Rattle.link_table_rows.proofs.words_of.Statement.{statement}
+use Rattle.link_table_rows.proofs.words_of.Tie as tie
 
 enum-known-c : tie.Need-enum-known-c
 enum-known-c c = search needs

@@ -3,10 +3,10 @@ use mathlib.Core.Path.{_≡_}
 use lib.ListN.{length}
 use Rattle.lists.proofs.Places.{length-mapped}
 use Rattle.types.specs.Capacities.{mostCommands}
-use Rattle.link_layout.proofs.Laws.{row-is}
+use Rattle.link_table_rows.proofs.Laws.{row-is}
 use borrow.Author.Needs.{needs}
-use Rattle.link_layout.proofs.row_of.Statement.{statement}
-use Rattle.link_layout.proofs.row_of.Tie as tie
+use Rattle.link_table_rows.proofs.row_of.Statement.{statement}
+use Rattle.link_table_rows.proofs.row_of.Tie as tie
 
 room : (s : tie.Start) → length (s .args .r .commands) ≡ mostCommands
 room s = search (needs, length-mapped)
