@@ -1,32 +1,31 @@
 -- The structs' changes as changes of the lists that they hold. An array whose free places are zero is its list padded with zeros, so
 -- that a change of the one is the change of the other.
 -- Assumes nothing.
-use Prim.Native.Nat.{ℕ, suc, _+_, _-_, _≤_, _<_}
+use Prim.Native.Nat.{ℕ, suc, _+_, _-_, _≤_}
 use native.Mathlib.Omega.{arith}
 use mathlib.Core.Path.{_≡_, refl, sym, ap, _∙_}
 use mathlib.Core.Bool.{Bool, true, false}
-use mathlib.Core.List.{List, [], _∷_, _++_}
-use lib.ListN.{length, take, drop, getD, set, replicate, length-append, length-take, length-drop, take-append-drop, List·getD-eq-default}
+use mathlib.Core.List.{[], List, _∷_, _++_}
+use lib.ListN.{length, take, drop, replicate, length-take, length-drop, take-append-drop}
 use lib.Seq.{take-at, drop-at, length-take-le}
-use lib.Dec.{leb, eqb}
+use lib.Dec.{leb}
 use borrow.Author.Tests.{leb-true, le-leb, eqb-true}
-use Rattle.lists.specs.Lists.{choose, all, chain, endsIn, every, lead, del, pad, shrink}
+use Rattle.lists.specs.Lists.{choose, all, chain, endsIn, every, pad}
 use Rattle.lists.proofs.Members.{every-cons, every-make, every-nil}
 use Rattle.lists.proofs.Walks.{all-same}
-use Rattle.lists.proofs.Places.{length-del, cut-found, cut-missing, laid-length, laid-get, laid-shrink, laid-append, laid-write, write-within, write-beyond}
+use Rattle.lists.proofs.Places.{laid-length}
 use Rattle.types.specs.Capacities.{mostPending, mostActors}
-use Rattle.types.specs.declared.Id.{Id}
 use Rattle.types.specs.declared.Number.{Number}
 use Rattle.types.specs.declared.Pending.{Pending}
 use Rattle.types.specs.declared.Storage.{Storage}
-use Rattle.rules.specs.Link.{untaken, lastOf, noteTaken, without}
+use Rattle.rules.specs.Link.{untaken}
 use Rattle.rules.specs.Link as rules
 use Rattle.rules.specs.Outcome.{base}
 use Rattle.rules.specs.WellFormed.{pendingOk, byNumber, durableOk}
 use Rattle.link_durable.specs.declared.Pendings.{Pendings}
 use Rattle.link_durable.specs.declared.Taken.{Taken}
 use Rattle.link_durable.specs.declared.Durable.{Durable}
-use Rattle.link_durable.specs.Views.{zeroPending, pendingList, pendingsOf, otherNumber, takenList, takenAs, durableView, durableAs, blankPending}
+use Rattle.link_durable.specs.Views.{zeroPending, pendingList, pendingsOf, takenList, takenAs, durableView, durableAs, blankPending}
 use Rattle.link_durable.specs.Views.{pendingPasses, blankNumber, pendingsLaid, takenLaid, durableLaid}
 
 -- ---- an array of which the first places are used and the others hold z, as a test p finds it
@@ -95,32 +94,6 @@ module _ (p : Pendings) (laid : PendingLaid p) where
   pub pendings-same : p ≡ pendingsOf (pendingList p)
   pendings-same = as-list (p .records) (p .used) (pendingList p) (laid .rest) (sym count)
 
-  pub removed : (n : Number) (at : ℕ) → at ≡ lead (otherNumber n) (pendingList p) → at < p .used → (es : List Pending)
-      → es ≡ shrink (p .used) at zeroPending (p .records)
-      → _≡_ {A = Pendings} (record { records = es; used = p .used - 1 }) (pendingsOf (without n (pendingList p)))
-  unfolding without
-  removed n at e h es f =
-      let v = count in
-      let w : lead (otherNumber n) (pendingList p) < length (pendingList p) = omega arith in
-      let d = cut-found (λ (q : Pending). eqb (n .0) (q .number .0)) (pendingList p) w in
-      rw d (as-list es (p .used - 1) _
-      (f ∙ laid-shrink mostPending zeroPending (p .records) (p .used) (laid .fit) (laid .rest) at h
-      ∙ ap (λ (k : ℕ). pad mostPending zeroPending (del k (pendingList p))) e)
-      (omega (arith, length-del (lead (otherNumber n) (pendingList p)) (pendingList p) w)))
-
-  pub absent : (n : Number) (at : ℕ) → at ≡ lead (otherNumber n) (pendingList p) → p .used ≤ at → p ≡ pendingsOf (without n (pendingList p))
-  unfolding without
-  absent n at e h =
-      let v = count in
-      rw (cut-missing (λ (q : Pending). eqb (n .0) (q .number .0)) (λ q. []) (pendingList p) (omega arith)) pendings-same
-
-  pub appended : (q : Pending) → p .used < mostPending
-      → _≡_ {A = Pendings} (record { records = set (p .records) (p .used) q; used = p .used + 1 }) (pendingsOf (pendingList p ++ q ∷ []))
-  appended q h =
-      let v = count in
-      as-list _ _ (pendingList p ++ q ∷ []) (laid-append mostPending zeroPending (p .records) (p .used) (laid .fit) (laid .rest) q h)
-      (omega (arith, length-append (pendingList p) (q ∷ [])))
-
 -- ---- numbers last taken
 abbrev pub TakenLaid : Taken → Type 0
 TakenLaid t = Laid mostActors untaken (t .last) (t .used)
@@ -147,27 +120,6 @@ module _ (t : Taken) (laid : TakenLaid t) where
 
   pub taken-same : t ≡ takenAs (takenList t)
   taken-same = as-taken (t .last) (t .used) (takenList t) (laid .rest) (sym held)
-
-  pub looked : (s : Id) → getD (t .last) (s .0) untaken ≡ lastOf s (takenList t)
-  unfolding lastOf
-  looked s = laid-get mostActors untaken (t .last) (t .used) (laid .fit) (laid .rest) (s .0)
-
-  pub never : (s : Id) → mostActors ≤ s .0 → untaken ≡ lastOf s (takenList t)
-  unfolding lastOf
-  never s h = let v = held in let f = laid .fit in sym (List·getD-eq-default (takenList t) untaken {n = s .0} (omega arith))
-
-  pub noted : (s : Id) (n : Number) (u : ℕ) → s .0 < mostActors → u ≡ length (noteTaken s n (takenList t))
-      → _≡_ {A = Taken} (record { last = set (t .last) (s .0) n; used = u }) (takenAs (noteTaken s n (takenList t)))
-  unfolding noteTaken
-  noted s n u h e = as-taken _ u _ (laid-write mostActors untaken (t .last) (t .used) (laid .fit) (laid .rest) (s .0) n h) e
-
-  pub longer : (s : Id) (n : Number) → t .used ≤ s .0 → s .0 + 1 ≡ length (noteTaken s n (takenList t))
-  unfolding noteTaken
-  longer s n h = let v = held in omega (arith, write-beyond untaken (s .0) n (takenList t) (omega arith))
-
-  pub as-long : (s : Id) (n : Number) → s .0 < t .used → t .used ≡ length (noteTaken s n (takenList t))
-  unfolding noteTaken
-  as-long s n h = let v = held in omega (arith, write-within untaken (s .0) n (takenList t) (omega arith))
 
 -- ---- the durable part
 pub record DurableLaid (d : Durable) : Type 0 where

@@ -3,7 +3,7 @@
 use Prim.Native.Nat.{ℕ}
 use mathlib.Core.Bool.{Bool, true, false, not, _||_}
 use mathlib.Core.Option.{Option, none, some}
-use mathlib.Core.List.{List, [], _∷_}
+use mathlib.Core.List.{[], List, _∷_}
 use lib.ListN.{length, take, drop}
 use lib.Dec.{leb, eqb}
 use Rattle.lists.specs.Lists.{choose, all, every, pad}
@@ -19,6 +19,7 @@ use Rattle.link_durable.specs.declared.Pendings.{Pendings}
 use Rattle.link_durable.specs.declared.Taken.{Taken}
 use Rattle.link_durable.specs.declared.Durable.{Durable}
 use Rattle.link_durable.specs.declared.Stored.{Stored}
+use Rattle.link_durable.specs.declared.Link.{Link}
 
 -- ---- messages sent and not acked
 abbrev pub zeroPending : Pending
@@ -29,9 +30,6 @@ pendingList p = take (p .used) (p .records)
 
 abbrev pub pendingsOf : List Pending → Pendings
 pendingsOf l = record { records = pad mostPending zeroPending l; used = length l }
-
-abbrev pub otherNumber : Number → Pending → Bool
-otherNumber n q = not (eqb (n .0) (q .number .0))
 
 -- ---- the numbers last taken
 abbrev pub takenList : Taken → List Number
@@ -94,3 +92,10 @@ durableFine k d = every (durableLaid d ∷ durableOk (base .limits) k (durableVi
 
 unfoldable pub storedFine : ℕ → Stored → Bool
 storedFine k s = every (storedLaid s ∷ storedOk (base .limits) k (storedView s) ∷ [])
+
+-- ---- the live part
+abbrev pub linkView : Link → rules.Link
+linkView l = record { durable = durableView (l .durable); state = l .state }
+
+abbrev pub linkAs : rules.Link → Link
+linkAs l = record { durable = durableAs (l .durable); state = l .state }

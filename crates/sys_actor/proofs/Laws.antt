@@ -42,7 +42,7 @@ use Rattle.link_durable.specs.Views.{
 }
 use Rattle.link_durable.proofs.Containers.{DurableLaid, durable-is, durable-fits, durable-back, durable-same}
 use Rattle.link_durable.proofs.Kept.{fine-laid, fine-formed, stored-laid, stored-formed, durable-kept, stored-kept}
-use Rattle.link_handlers.specs.Views.{linkView, linkAs}
+use Rattle.link_durable.specs.Views.{linkView, linkAs}
 use Rattle.sys_actor.specs.declared.Actor.{Actor}
 use Rattle.sys_actor.specs.Views.{actorView, actorAs, ActorLaid, actorLaid, quiet, actorFine, zeroActor, zeroed, blankActor}
 

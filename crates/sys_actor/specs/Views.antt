@@ -14,7 +14,7 @@ use Rattle.rules.specs.System as rules
 use Rattle.link_timers.specs.Views.{listed, timersOf}
 use Rattle.link_durable.specs.declared.Durable.{Durable}
 use Rattle.link_durable.specs.Views.{zeroDurable, storedView, storedAs, durableLaid, blankDurable, storedLaid, durableFine, storedFine}
-use Rattle.link_handlers.specs.Views.{linkView, linkAs}
+use Rattle.link_durable.specs.Views.{linkView, linkAs}
 use Rattle.sys_actor.specs.declared.Actor.{Actor}
 
 -- The actor with its rules.

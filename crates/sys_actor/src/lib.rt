@@ -5,7 +5,7 @@ use link_durable::Stored;
 use link_durable::Taken;
 use link_durable::durable_ok;
 use link_durable::stored_ok;
-use link_handlers::Link;
+use link_durable::Link;
 use link_timers::Timers;
 use types::Id;
 use types::LAST_STATE;

@@ -2,7 +2,7 @@
 use answers::Answer;
 use answers::is_done;
 use link_durable::fresh_durable;
-use link_handlers::Link;
+use link_durable::Link;
 use link_inner::Table;
 use link_inner::zero_table;
 use net_network::Network;

@@ -18,7 +18,7 @@ use link_durable::Durable;
 use link_durable::Stored;
 use link_durable::Taken;
 use link_durable::fresh_durable;
-use link_handlers::Link;
+use link_durable::Link;
 use link_inner::Table;
 use link_inner::zero_table;
 use link_timers::Timers;

@@ -1,4 +1,0 @@
-pub mod Handlers
-pub mod Saves
-pub mod One
-pub mod Kept

@@ -1,3 +1,0 @@
-pub mod Outputs
-pub mod Loops
-pub mod One
