@@ -33,9 +33,7 @@ pub fn cells_of(entries: [Entry; MOST_ENTRIES], used: usize) -> [[u64; 4]; MOST_
 
 // The entries that the used cells are; the other entries are zero.
 pub fn entries_of(c: &[[u64; 4]], used: usize) -> [Entry; MOST_ENTRIES]
-    requires {
-        ⌜ (used ≤ length (now c)) × (used ≤ mostEntries) × (all (λ x. leb (x .count) mostCopies) (map entryOf (take used (now c))) ≡ true) ⌝
-    }
+    requires { ⌜ (used ≤ length (now c)) × (used ≤ mostEntries) × (all (λ x. leb (x .count) mostCopies) (map entryOf (take used (now c))) ≡ true) ⌝ }
     ensures { λ r. ⌜ r ≡ pad mostEntries zeroEntry (map entryOf (take used (now (c .entry)))) ⌝ }
 {
     let z = zero_entry();

@@ -170,5 +170,5 @@ module _
   deliver-back e c = (
     readable-by c (unfold onDeliver in kept.deliver-ready (n .kind) (n .last) cs (n .used) count before s cs' e c),
     guarded-back _ 3 (delivering e (netView n)) _ (delivering-kind e (netView n)) (delivering-last e (netView n))
-    (refused-last (n .kind) e (n .last) (present e (netView n))) (as-struct (λ r m. onDeliver e m) c),
+        (refused-last (n .kind) e (n .last) (present e (netView n))) (as-struct (λ r m. onDeliver e m) c),
   )
