@@ -16,8 +16,9 @@ ghost use Rattle.types.specs.declared.LastMessage.the-variants.{Nothing};
 ghost use Rattle.types.specs.Capacities.{mostEntries, mostCopies};
 ghost use Rattle.rules.specs.Outcome.{base};
 ghost use Rattle.rules.specs.Network.{send, onDeliver, onDrop, len};
+ghost use Rattle.net_layout.specs.Layout.{Readable};
 ghost use Rattle.net_network.specs.Views.{entryList, netView, networkOf, NetReady, back, sentOf};
-ghost use Rattle.net_network.specs.Parts.{Readable, readBack, lastAfter};
+ghost use Rattle.net_network.specs.Parts.{readBack, lastAfter};
 
 // Places from the used count on hold the zero entry.
 pub struct Network {

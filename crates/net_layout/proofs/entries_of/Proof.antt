@@ -35,7 +35,7 @@ shared-slice-copy-out-x c = search needs
 entry-of-requires : tie.Need-entry-of-requires Inv-loop μ-loop
 entry-of-requires c κs =
     let s = c .before .before .before .before in
-    count-fits (s .args .c .now) (s .args .used) (c .before .before .loop .i) (omega arith) (omega arith) (s .pre .2)
+    count-fits (s .args .c .now) (s .args .used) (c .before .before .loop .i) (omega arith) (omega arith) (s .pre .counts)
 
 mul-es : tie.Need-mul-es Inv-loop μ-loop
 mul-es c = search needs
