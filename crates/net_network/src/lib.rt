@@ -109,12 +109,12 @@ pub fn on_drop(n: Network, e: Envelope) -> Sent
     let kind = n.kind;
     let es = n.entries;
     let used = n.used;
-    let last = n.last;
+    let kept = n.last;
     let count = len(n);
     let mut cells = cells_of(es, used);
     let s = net_rows::on_drop(&mut cells, kind, used, count, e);
     let answer = s.answer;
-    laid_back(answer, kind, &cells, s.used, last)
+    laid_back(answer, kind, &cells, s.used, kept)
 }
 
 // The last message after a Deliver: on the duplicating kind, where none is refused, it is this one.

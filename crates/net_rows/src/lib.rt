@@ -48,8 +48,9 @@ fn insert_cell(c: &mut [[u64; 4]], used: usize, len: u64, at: usize, k: [u64; 4]
         };
     }
     insert_at(c, used, at, k);
+    let answer = Answer::Done;
     Sent {
-        answer: Answer::Done,
+        answer: answer,
         used: used + 1,
         len: len + 1,
     }

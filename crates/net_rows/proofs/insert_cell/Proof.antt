@@ -14,8 +14,8 @@ returns c =
 insert-at-requires : tie.Need-insert-at-requires
 insert-at-requires c κs = search needs
 
-add-t6 : tie.Need-add-t6
-add-t6 c = search needs
+add-t7 : tie.Need-add-t7
+add-t7 c = search needs
 
 add-t13 : tie.Need-add-t13
 add-t13 c =
@@ -36,7 +36,7 @@ insert-cell-spec =
     (tie.spec
     returns
     insert-at-requires
-    add-t6
+    add-t7
     add-t13
     same-length
     returns-2)
