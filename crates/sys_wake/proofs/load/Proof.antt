@@ -6,8 +6,8 @@ use borrow.Author.Needs.{needs}
 use Rattle.sys_wake.proofs.load.Statement.{statement}
 use Rattle.sys_wake.proofs.load.Tie as tie
 
-element-copy-out-mark : tie.Need-element-copy-out-mark
-element-copy-out-mark c = search needs
+element-copy-out-crashed : tie.Need-element-copy-out-crashed
+element-copy-out-crashed c = search needs
 
 element-copy-out-timers : tie.Need-element-copy-out-timers
 element-copy-out-timers c = search needs
@@ -50,7 +50,7 @@ pub load-spec : {M : Type 1} → statement M
 load-spec =
     tie.close
     (tie.spec
-    element-copy-out-mark
+    element-copy-out-crashed
     element-copy-out-timers
     element-copy-out-if1
     element-write-live
