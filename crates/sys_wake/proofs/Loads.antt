@@ -173,7 +173,8 @@ module _ (t : List (List ℕ)) (rules : ℕ) (laid : TableLaid t rules) (s : Sto
   unfolding startRow choose orders
   starts = go (ltb at rules) refl
     where
-      by : (b : Reply) (r : List ℕ) → atStart (rulesIn t rules) s ≡ b → RowLaid r → b .out ≡ orders r nobody (startValue s) → b .state ≡ getD r 4 0
+      by : (b : Reply) (r : List ℕ) → atStart (rulesIn t rules) s ≡ b → RowLaid r
+          → b .out ≡ orders r nobody (startValue s) → b .state ≡ getD r 4 0
           → Starts (atStart (rulesIn t rules) s) r (startValue s)
       by b r e l o n = record { laid = l; out = ap (λ (y : Reply). y .out) e ∙ o; state = ap (λ (y : Reply). y .state) e ∙ n }
 

@@ -112,7 +112,8 @@ module _ (me : Id) (kind : Kind) (used n : ℕ) (rs : List Rule) (x : Rows) (t :
       → Woken count me rs kind used n x r z
   unfolding durableIn
   woken-by count r z acted =
-      ended-by me count rs (waking me kind used rs x) (λ last. last) kind used n x (reacting me kind (orders row nobody value) t (getD row 4 0) used x) r z acted
+      ended-by me count rs (waking me kind used rs x) (λ last. last) kind used n x
+      (reacting me kind (orders row nobody value) t (getD row 4 0) used x) r z acted
       (λ hall size last. start-runs me kind used rs hall last x t set-to loaded (orders row nobody value) (getD row 4 0) (st .out) (st .state))
 
 -- ---- a start, from the one on loaded rows
@@ -223,7 +224,7 @@ module _ (count : ℕ) (i : Id) (rs : List Rule) (kind : Kind) (used n : ℕ) (x
       stepped-back f =
           let e = woken .same f in
           let e1 : set (z .live) 5 (getD w 5 0) ≡ w =
-              ap (λ (l : List ℕ). set l 5 (getD w 5 0)) (ap (λ (a : Rows). a .live) (e .0)) ∙ set-set w 5 0 (getD w 5 0) ∙ set-getD w 5 0 in
+          ap (λ (l : List ℕ). set l 5 (getD w 5 0)) (ap (λ (a : Rows). a .live) (e .0)) ∙ set-set w 5 0 (getD w 5 0) ∙ set-getD w 5 0 in
           let e2 : z .pend ≡ x .pend = ap (λ (a : Rows). a .pend) (e .0) in
           record {
             fine = record { net = woken .fine .net; room = woken .fine .room; live = rw (e1, e2) (fine .live); kept = woken .fine .kept };

@@ -171,7 +171,19 @@ pub fn wake(
     let old = *live;
     let olds = *pend;
     load(live, pend, kept, stored);
-    let s = start(c, live, pend, kept, stored, table, rules, kind, used, len, me);
+    let s = start(
+        c,
+        live,
+        pend,
+        kept,
+        stored,
+        table,
+        rules,
+        kind,
+        used,
+        len,
+        me,
+    );
     let a = s.answer;
     if is_done(a) {
         return s;
@@ -210,7 +222,19 @@ pub fn recover(
         };
     }
     live[5] = 0;
-    let s = wake(c, live, pend, kept, stored, table, rules, kind, used, len, i);
+    let s = wake(
+        c,
+        live,
+        pend,
+        kept,
+        stored,
+        table,
+        rules,
+        kind,
+        used,
+        len,
+        i,
+    );
     let a = s.answer;
     if is_done(a) {
         return s;

@@ -25,7 +25,8 @@ returns : tie.Need-returns
 returns c =
     let s = c .before .before .before .before .before .before .before in
     let a = s .args in
-    rw (c .put-marks .ensures) (loaded-fresh (a .live .now) (a .kept .now) (a .pend .now) (a .stored .now) (s .pre .0) (s .pre .1) (c .before .before .before .if1 .taken))
+    rw (c .put-marks .ensures)
+    (loaded-fresh (a .live .now) (a .kept .now) (a .pend .now) (a .stored .now) (s .pre .0) (s .pre .1) (c .before .before .before .if1 .taken))
 
 put-marks-requires-2 : tie.Need-put-marks-requires-2
 put-marks-requires-2 c κs = search needs

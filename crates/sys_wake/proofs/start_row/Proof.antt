@@ -14,13 +14,15 @@ shared-slice-copy-out-result c = search needs
 
 returns : tie.Need-returns
 returns c =
-    let a = c .before .before .before .args in
-    row-found (a .table .now) (a .rules) (a .event) (a .value) (c .before .before .first-match .result) (c .before .before .first-match .ensures) (c .before .if1 .taken)
+    let f = c .before .before in
+    let a = f .before .args in
+    row-found (a .table .now) (a .rules) (a .event) (a .value) (f .first-match .result) (f .first-match .ensures) (c .before .if1 .taken)
 
 returns-2 : tie.Need-returns-2
 returns-2 c =
-    let a = c .before .before .args in
-    row-none (a .table .now) (a .rules) (a .event) (a .value) (c .before .first-match .result) (c .before .first-match .ensures) (c .if1 .left)
+    let f = c .before in
+    let a = f .before .args in
+    row-none (a .table .now) (a .rules) (a .event) (a .value) (f .first-match .result) (f .first-match .ensures) (c .if1 .left)
 
 pub start-row-spec : {M : Type 1} → statement M
 start-row-spec =
