@@ -1,6 +1,6 @@
 -- What is loaded is laid out, and the row of a start says what the rules' reply says.
 -- Assumes nothing.
-use Prim.Native.Nat.{ℕ, zero, suc, _+_, _≤_, _<_}
+use Prim.Native.Nat.{ℕ, zero, suc, _+_, _-_, _≤_, _<_}
 use native.Mathlib.Omega.{arith}
 use mathlib.Core.Path.{_≡_, refl, sym, ap, _∙_}
 use mathlib.Core.Bool.{Bool, true, false}
@@ -14,13 +14,13 @@ use Rattle.types.specs.Capacities.{mostPending}
 use Rattle.types.specs.declared.Storage.{Storage}
 use Rattle.types.specs.declared.Storage.the-variants.{Nothing, Value}
 use Rattle.rules.specs.Inner.{Reply, atStart, nobody}
-use Rattle.rules.specs.Link.{Durable, fresh, durableOf}
+use Rattle.rules.specs.Link.{fresh, durableOf}
 use Rattle.link_tables.specs.Rows.{RowLaid, TableLaid, orders, rulesIn, startEvent, startValue}
 use Rattle.link_tables.proofs.Told.{zero-laid}
 use Rattle.link_tables.proofs.Replies.{start-is, row-replies, none-replies}
-use Rattle.link_rows.specs.Rows.{rowSize, pendingIn, numberIn, storageIn, durableIn, HeadLaid}
+use Rattle.link_rows.specs.Rows.{rowSize, pendingIn, numberIn, storageIn, durableIn}
 use Rattle.link_rows.proofs.Heads.{sendable-same}
-use Rattle.sys_rows.specs.Rows.{storedIn, TailLaid, RowsLaid, Settled}
+use Rattle.sys_rows.specs.Rows.{storedIn, RowsLaid, Settled}
 use Rattle.sys_rows.proofs.Laws.{aside, aside-head, tail-at, tail-marks}
 use Rattle.sys_moves.proofs.Taken.{timers-small}
 use Rattle.sys_wake.specs.Starts.{begun, Loaded, savedIn, startPlace, startRow}
@@ -121,7 +121,7 @@ fresh-laid p e = record {
   places = e;
   pending = omega arith;
   head = record { sendable = record { dst = λ i h. absurd (omega arith); payload = λ i h. absurd (omega arith) }; saves = omega arith; value = omega arith };
-  tail = record { sources = omega arith; timers = omega arith; state = omega arith; rest = λ i a b. zeros 28 (4 + i) };
+  tail = record { sources = omega arith; timers = omega arith; state = omega arith; rest = λ i a b. zeros (rowSize - 4) (4 + i) };
 }
 
 module _ (w k : List ℕ) (p q : List (List ℕ)) (live : RowsLaid w p) (kept : RowsLaid k q) where

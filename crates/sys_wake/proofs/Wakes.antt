@@ -4,8 +4,8 @@ use Prim.Native.Nat.{ℕ, _%_}
 use native.Mathlib.Omega.{arith}
 use mathlib.Core.Path.{_≡_, refl, sym, ap, _∙_}
 use mathlib.Core.Bool.{Bool, true, false}
-use mathlib.Core.List.{List, _∷_}
-use lib.ListN.{length, getD, set}
+use mathlib.Core.List.{List}
+use lib.ListN.{getD, set}
 use lib.Seq.{getD-set-same, getD-set-other, set-getD, set-set}
 use borrow.Author.Tests.{eq-eqb, ne-eqb}
 use Rattle.types.specs.Capacities.{mostPending, network}
@@ -20,8 +20,7 @@ use Rattle.answers.specs.Answers.{isDone}
 use Rattle.rules.specs.Outcome.{Outcome, done, refused, bind, guard}
 use Rattle.rules.specs.Inner.{Reply, atStart, nobody}
 use Rattle.rules.specs.Timers.{setTimer}
-use Rattle.rules.specs.Network.{Net}
-use Rattle.rules.specs.Link.{Durable, fresh, durableOf, Output, Link, Did, output, startedBy, starting, onStart}
+use Rattle.rules.specs.Link.{Durable, Output, Did, output, startedBy, starting, onStart}
 use Rattle.rules.specs.System.{Actor, Sys, systems, withTimers, withLink, withMark, runCommands, perform, wake, act}
 use Rattle.link_timers.specs.Views.{listed}
 use Rattle.net_rows.specs.declared.Sent.{Sent}
@@ -33,7 +32,7 @@ use Rattle.sys_seat.proofs.Seats.{run-set}
 use Rattle.sys_seat.proofs.Actions.{bind-same, seat-wake, seat-recover}
 use Rattle.sys_emits.proofs.Laws.{not-both}
 use Rattle.sys_reacts.specs.Views.{limitsOf}
-use Rattle.sys_rows.specs.Rows.{storedIn, actorOf, RowsLaid, Settled}
+use Rattle.sys_rows.specs.Rows.{storedIn, actorOf}
 use Rattle.sys_rows.proofs.Laws.{aside}
 use Rattle.sys_moves.specs.Views.{capsOf, Rows, rowsOf, actorAt, sysAt, running, reacting, Fine, Acted, lastThen, Stepped, Woken}
 use Rattle.sys_moves.proofs.Ends.{ended-by, ended-refused}

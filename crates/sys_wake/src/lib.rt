@@ -149,7 +149,7 @@ fn start(
 }
 
 // ---- a start, and a recovery
-// A start on what is stored: 6, 7 or 8 and nothing changed, or all of it done.
+// A start on what is stored: 6, 7 or 8 and nothing changed, or all of it done. The two rows that are loaded over are kept, to be put back.
 pub fn wake(
     c: &mut [[u64; 4]; MOST_ENTRIES],
     live: &mut [u64; ROW],
@@ -194,6 +194,7 @@ pub fn wake(
 }
 
 // A recovery: 4 where the actor is not crashed; else the mark goes, and it is a start. The mark is there again after a refusal.
+// The test of i stands in the caller, which lends its rows: `count` is for the contract.
 pub fn recover(
     c: &mut [[u64; 4]; MOST_ENTRIES],
     live: &mut [u64; ROW],
