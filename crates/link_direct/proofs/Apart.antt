@@ -1,7 +1,6 @@
 -- A reaction that is done can be done apart: the rules' list of commands is what it asks of network and timers, and their durable
 -- part is what it makes of it. The two go by the same commands, one by one.
 -- Assumes nothing.
-use Prim.Native.Nat.{ℕ}
 use mathlib.Core.Path.{_≡_, refl, ap}
 use mathlib.Core.List.{List, [], _∷_}
 use Rattle.types.specs.declared.Id.{Id}

@@ -13,7 +13,7 @@ use Rattle.types.specs.declared.Payload.{Payload}
 use Rattle.types.specs.declared.Message.the-variants.{Deliver}
 use Rattle.types.specs.declared.InnerCommand.{InnerCommand}
 use Rattle.types.specs.declared.InnerCommand.the-variants as inner
-use Rattle.rules.specs.Outcome.{Outcome, done, refused, bind, guard, Limits}
+use Rattle.rules.specs.Outcome.{done, refused, bind, guard, Limits}
 use Rattle.rules.specs.Link.{Durable, Command, Set, Cancel, Send, Event, Sent, Output, also, process, posting, withInner, numbered}
 use Rattle.link_direct.specs.Direct.{sends}
 

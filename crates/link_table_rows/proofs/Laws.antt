@@ -5,12 +5,12 @@ use Prim.Native.Nat.{ℕ, zero, suc, _+_, _*_, _/_, _%_, _-_, _≤_, _<_}
 use native.Mathlib.Omega.{arith}
 use mathlib.Core.Path.{_≡_, refl, sym, ap, _∙_, subst}
 use mathlib.Core.Bool.{Bool, true, false, _||_}
-use mathlib.Core.List.{List, [], _∷_, _++_, map}
+use mathlib.Core.List.{List, [], _∷_, map}
 use lib.ListN.{length, take, drop, getD, replicate, take-append-drop, length-drop}
 use lib.Seq.{length-take-le}
 use lib.Dec.{eqb, ltb}
 use borrow.Author.Tests.{leb-true, lt-ltb}
-use Rattle.lists.specs.Lists.{choose, any, all, every, pad}
+use Rattle.lists.specs.Lists.{choose, any, all, pad}
 use Rattle.lists.proofs.Members.{and-both, every-cons}
 use Rattle.lists.proofs.Walks.{map-back, all-same}
 use Rattle.types.specs.Capacities.{mostCommands, lastState}
@@ -264,7 +264,8 @@ abbrev At : Rule → ℕ → Words → Type 0
 At r i x = (x ≡ wordsAt r i) × Fits x
 
 pub row-is : (r : Rule) → length (r .commands) ≡ mostCommands → ruleOk r ≡ true
-    → (a b c d : Words) → At r 0 a → At r 1 b → At r 2 c → At r 3 d → (x : List ℕ) → x ≡ rowWith r a b c d → (x ≡ rowOf r) × (ruleIn x ≡ r) × RowLaid x
+    → (a b c d : Words) → At r 0 a → At r 1 b → At r 2 c → At r 3 d → (x : List ℕ) → x ≡ rowWith r a b c d
+    → (x ≡ rowOf r) × (ruleIn x ≡ r) × RowLaid x
 unfolding rowOf
 row-is r room ok a b c d p q s t x e =
     let f : x ≡ rowOf r = e ∙ rw (p .0, q .0, s .0, t .0) in

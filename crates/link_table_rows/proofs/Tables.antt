@@ -9,7 +9,7 @@ use mathlib.Core.List.{List, [], _∷_, _++_, map, map-append}
 use lib.ListN.{length, take, getD, set, replicate, length-map, List·getD-map}
 use lib.Seq.{take-suc, take-at, getD-take, length-take-le}
 use borrow.Author.Count.{below-none, below-more}
-use Rattle.lists.specs.Lists.{all, pad}
+use Rattle.lists.specs.Lists.{pad}
 use Rattle.lists.proofs.Members.{all-in, get-in}
 use Rattle.lists.proofs.Places.{append-pad, length-pad, get-any}
 use Rattle.types.specs.Capacities.{mostRules}
@@ -18,7 +18,7 @@ use Rattle.rules.specs.WellFormed.{ruleOk}
 use Rattle.rules.proofs.Formed.{sound-rules}
 use Rattle.link_inner.specs.declared.Table.{Table}
 use Rattle.link_inner.specs.Views.{rulesOf, tableOk}
-use Rattle.link_inner.proofs.Tables.{outside, Fine, table-is}
+use Rattle.link_inner.proofs.Tables.{outside, table-is}
 use Rattle.link_tables.specs.Rows.{ruleIn, RowLaid, TableLaid, rulesIn}
 use Rattle.link_table_rows.specs.Layout.{rowOf}
 

@@ -13,7 +13,6 @@ use lib.Dec.{eqb}
 use borrow.Author.Tests.{ne-eqb}
 use Rattle.lists.specs.Lists.{choose, any}
 use Rattle.types.specs.declared.Id.{Id}
-use Rattle.types.specs.declared.Rule.{Rule}
 use Rattle.types.specs.declared.Storage.{Storage}
 use Rattle.types.specs.declared.Storage.the-variants.{Nothing, Value}
 use Rattle.types.specs.declared.InnerCommand.{InnerCommand}
@@ -31,12 +30,6 @@ pub row-ignored : (r : List ℕ) (source : Id) (value : ℕ) → RowLaid r
     → ignored (replied r source value) ≡ (not (mark (getD r 3 0)) && eqb (getD r 5 0) 0)
 unfolding ignored
 row-ignored r source value laid = rw (not-any (orders r source value), orders-count r source value laid)
-
--- ---- a start is an event in state 0
-pub start-is : (rs : List Rule) (saved : Storage) → atStart rs saved ≡ reply rs (startEvent saved) 0 nobody (startValue saved)
-unfolding atStart startEvent startValue
-start-is rs Nothing = refl
-start-is rs (Value v) = refl
 
 -- ---- what decides
 module _ (event state : ℕ) (source : Id) (value : ℕ) where
@@ -87,3 +80,17 @@ module _ (event state : ℕ) (source : Id) (value : ℕ) where
     pub none-ignored : used ≤ at → ignored (reply (rulesIn t used) event state source value) ≡ true
     unfolding ignored any
     none-ignored h = ap ignored (none-replies h)
+
+-- ---- a start is an event in state 0
+module _ (saved : Storage) (t : List (List ℕ)) (used at : ℕ) (laid : TableLaid t used)
+    (e : at ≡ firstOf (startEvent saved) 0 (startValue saved) (rulesIn t used)) where
+  start-is : (s : Storage) → atStart (rulesIn t used) s ≡ reply (rulesIn t used) (startEvent s) 0 nobody (startValue s)
+  unfolding atStart startEvent startValue
+  start-is Nothing = refl
+  start-is (Value v) = refl
+
+  pub start-replies : at < used → atStart (rulesIn t used) saved ≡ replied (getD t at []) nobody (startValue saved)
+  start-replies h = start-is saved ∙ row-replies (startEvent saved) 0 nobody (startValue saved) t used at laid e h
+
+  pub start-none : used ≤ at → atStart (rulesIn t used) saved ≡ record { touched = false; state = 0; out = [] }
+  start-none h = start-is saved ∙ none-replies (startEvent saved) 0 nobody (startValue saved) t used at laid e h

@@ -1,5 +1,6 @@
-// A rule table as rows of words, lent: the place of the first rule that matches. A row: event and state in one number, low,
-// high, touched, next, the count of commands, two words for each of four commands, the count of sends, whether it sends or saves.
+// A rule table as rows of words, lent: the place of the first rule that matches, and what its row says. A row: event and state in
+// one number, low, high, touched, next, the count of commands, two words for each of four commands, the count of sends, whether it
+// sends or saves. The crate link_table_rows makes them.
 use types::Id;
 use types::InnerCommand;
 use types::Payload;

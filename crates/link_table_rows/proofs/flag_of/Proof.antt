@@ -1,6 +1,5 @@
 -- By the two values of b.
 use Rattle.lists.specs.Lists.{choose}
-use mathlib.Core.Path.{refl}
 use native.Mathlib.Omega.{arith}
 use Rattle.link_table_rows.proofs.flag_of.Statement.{statement}
 use Rattle.link_table_rows.proofs.flag_of.Tie as tie
