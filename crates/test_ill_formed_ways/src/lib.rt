@@ -17,7 +17,6 @@
 use link_durable::Durable;
 use link_durable::Stored;
 use link_durable::Taken;
-use link_durable::fresh_durable;
 use link_durable::Link;
 use link_inner::Table;
 use link_inner::zero_table;
@@ -234,8 +233,10 @@ fn storage(above: u8) -> Storage {
 fn durable(word: u64, above: u8) -> Durable {
     let next = number(word, 0);
     let inner = storage(above);
-    let fresh = fresh_durable();
-    let mut p = fresh.pending;
+    let blank = zero_actor();
+    let l = blank.link;
+    let d = l.durable;
+    let mut p = d.pending;
     p.records[0] = pending(number(word, 1));
     p.records[1] = pending(number(word, 2));
     p.used = size(word, 3);
