@@ -20,7 +20,8 @@ use Rattle.sys_rows.proofs.Laws.{aside, aside-head, tail-at, tail-marks
 
 -- ---- nothing stored
 -- A row of which all but the next number is zero, and any pending records.
-none-used : (w : List ℕ) (p : List (List ℕ)) → length w ≡ rowSize → ((i : ℕ) → getD w (1 + i) 0 ≡ 0) → length p ≡ mostPending → RowsLaid w p
+none-used : (w : List ℕ) (p : List (List ℕ)) → length w ≡ rowSize → ((i : ℕ) → getD w (1 + i) 0 ≡ 0) → length p ≡ mostPending
+    → RowsLaid w p
 none-used w p room z places =
     let e1 = z 0 in
     let e2 = z 1 in
@@ -60,7 +61,8 @@ module _ (p : List (List ℕ)) where
   zero-laid h = none-used (replicate rowSize 0) p refl (λ i. zeros rowSize (1 + i)) h
 
 -- An actor before any start.
-pub fresh-actor : (rs : List Rule) (p : List (List ℕ)) (k : List ℕ) (q : List (List ℕ)) → getD k 5 0 ≡ 0 → actorOf rs freshRow p k q ≡ unstarted rs
+pub fresh-actor : (rs : List Rule) (p : List (List ℕ)) (k : List ℕ) (q : List (List ℕ)) → getD k 5 0 ≡ 0
+    → actorOf rs freshRow p k q ≡ unstarted rs
 unfolding actorOf unstarted storedIn listed listedFrom choose
 fresh-actor rs p k q e =
     let d = fresh-durable p in
@@ -102,7 +104,8 @@ module _ (k : List ℕ) (q p : List (List ℕ)) (laid : RowsLaid k q) (some : ge
       let r = laid .room in
       let r5 = length-set k 5 0 in
       let r6 = length-set w5 6 0 in
-      let e5 : getD w 5 0 ≡ 0 = getD-set-other w6 7 5 0 0 (λ z. omega arith) ∙ getD-set-other w5 6 5 0 0 (λ z. omega arith) ∙ getD-set-same k 5 0 0 (omega arith) in
+      let e5 : getD w 5 0 ≡ 0 =
+          getD-set-other w6 7 5 0 0 (λ z. omega arith) ∙ getD-set-other w5 6 5 0 0 (λ z. omega arith) ∙ getD-set-same k 5 0 0 (omega arith) in
       let e6 : getD w 6 0 ≡ 0 = getD-set-other w6 7 6 0 0 (λ z. omega arith) ∙ getD-set-same w5 6 0 0 (omega arith) in
       let e7 : getD w 7 0 ≡ 0 = getD-set-same w6 7 0 0 (omega arith) in
       record {
