@@ -1,6 +1,6 @@
 -- The timer goes; then the commands of the rule that decides, if one does.
 use native.Mathlib.Omega.{arith}
-use Prim.Native.Nat.{_≤_, _<_}
+use Prim.Native.Nat.{_<_}
 use mathlib.Core.Path.{ap}
 use mathlib.Core.List.{[]}
 use lib.ListN.{getD}
