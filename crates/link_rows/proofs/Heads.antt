@@ -14,7 +14,8 @@ use Rattle.link_rows.specs.Rows.{rowSize, Sendable, HeadLaid}
 -- The records that are counted are the same ones.
 pub sendable-same : (p q : List (List ℕ)) (n : ℕ) → take n q ≡ take n p → Sendable p n → Sendable q n
 sendable-same p q n e fit =
-    let at : (i : ℕ) → i < n → getD q i [] ≡ getD p i [] = λ i h. sym (getD-take n q i [] h) ∙ ap (λ (l : List (List ℕ)). getD l i []) e ∙ getD-take n p i [] h in
+    let at : (i : ℕ) → i < n → getD q i [] ≡ getD p i [] =
+        λ i h. sym (getD-take n q i [] h) ∙ ap (λ (l : List (List ℕ)). getD l i []) e ∙ getD-take n p i [] h in
     record {
       dst = λ i h. let z = ap (λ (r : List ℕ). getD r 1 0) (at i h) in let y = fit .dst i h in omega arith;
       payload = λ i h. let z = ap (λ (r : List ℕ). getD r 2 0) (at i h) in let y = fit .payload i h in omega arith;
@@ -27,7 +28,8 @@ copied-more p q i a b e =
     rw (add-one i) (take-suc-set q i (getD p i []) b ∙ ap (λ (l : List (List ℕ)). l ++ getD p i [] ∷ []) e ∙ sym (take-suc p i [] a))
 
 -- The same words up to place 3.
-pub head-same : (w v : List ℕ) (p : List (List ℕ)) → getD v 1 0 ≡ getD w 1 0 → getD v 2 0 ≡ getD w 2 0 → getD v 3 0 ≡ getD w 3 0 → HeadLaid w p → HeadLaid v p
+pub head-same : (w v : List ℕ) (p : List (List ℕ)) → getD v 1 0 ≡ getD w 1 0 → getD v 2 0 ≡ getD w 2 0 → getD v 3 0 ≡ getD w 3 0
+    → HeadLaid w p → HeadLaid v p
 head-same w v p e1 e2 e3 fit = record {
   sendable = rw e1 (fit .sendable);
   saves = let z = fit .saves in omega arith;
@@ -55,7 +57,8 @@ module _ (w v : List ℕ) (p : List (List ℕ)) (q : List ℕ) (room : getD w 1 
   }
 
 -- ---- one record less
-past : {A : Type 0} (P : A → Type 0) (d : A) (at : ℕ) (l : List A) (n : ℕ) → ((i : ℕ) → i ≤ n → P (getD l i d)) → (i : ℕ) → i < n → P (getD (del at l) i d)
+past : {A : Type 0} (P : A → Type 0) (d : A) (at : ℕ) (l : List A) (n : ℕ) → ((i : ℕ) → i ≤ n → P (getD l i d))
+    → (i : ℕ) → i < n → P (getD (del at l) i d)
 unfolding del
 past P d zero [] n h i b = h i (omega arith)
 past P d zero (x ∷ l) n h i b = h (suc i) (omega arith)

@@ -122,7 +122,8 @@ readable w p laid = record {
   head = laid .head;
 }
 
-pub stored-none : (k : List ℕ) (q : List (List ℕ)) (s : Stored) → getD k 5 0 ≡ 0 → s ≡ storedAs none → s ≡ storedAs (storedIn (getD k 5 0) (durableIn k q))
+pub stored-none : (k : List ℕ) (q : List (List ℕ)) (s : Stored) → getD k 5 0 ≡ 0 → s ≡ storedAs none
+    → s ≡ storedAs (storedIn (getD k 5 0) (durableIn k q))
 unfolding storedIn
 stored-none k q s e f = f ∙ ap (λ (n : ℕ). storedAs (storedIn n (durableIn k q))) (sym e)
 

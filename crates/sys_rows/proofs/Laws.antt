@@ -94,7 +94,8 @@ module _ (w : List ℕ) (t s : ℕ) (room : length w ≡ rowSize) (laid : TailLa
   marked-tail =
       let e6 = at-timers in
       let e7 = at-state in
-      tail-marks w v laid (at-other 4 (λ z. omega arith) (λ z. omega arith)) (omega arith) (omega arith) (λ i. at-other (8 + i) (λ z. omega arith) (λ z. omega arith))
+      tail-marks w v laid (at-other 4 (λ z. omega arith) (λ z. omega arith)) (omega arith) (omega arith)
+      (λ i. at-other (8 + i) (λ z. omega arith) (λ z. omega arith))
 
 -- Commands are noted, then timers and state put in place.
 module _ (os : List InnerCommand) (w : List ℕ) (p : List (List ℕ)) (w1 : List ℕ) (p1 : List (List ℕ)) (t s : ℕ)
@@ -118,8 +119,9 @@ module _ (os : List InnerCommand) (w : List ℕ) (p : List (List ℕ)) (w1 : Lis
       }
 
 -- A change up to place 3.
-pub settled-low : (change : Durable → Durable) (w : List ℕ) (p : List (List ℕ)) (w' : List ℕ) (p' : List (List ℕ)) → RowsLaid w p → Turned change w p w' p'
-    → getD w' 1 0 ≤ getD w 1 0 → length w' ≡ rowSize → length p' ≡ mostPending → Settled (change (durableIn w p)) (getD w 6 0) (getD w 7 0) w w' p'
+pub settled-low : (change : Durable → Durable) (w : List ℕ) (p : List (List ℕ)) (w' : List ℕ) (p' : List (List ℕ)) → RowsLaid w p
+    → Turned change w p w' p' → getD w' 1 0 ≤ getD w 1 0 → length w' ≡ rowSize → length p' ≡ mostPending
+    → Settled (change (durableIn w p)) (getD w 6 0) (getD w 7 0) w w' p'
 settled-low change w p w' p' laid to few r1 r2 = record {
   durable = to .durable;
   crashed = tail-same w w' (to .after) 1;

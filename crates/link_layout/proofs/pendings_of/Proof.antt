@@ -78,7 +78,8 @@ unfolding pendingIn
 loop-again c =
     let l = c .before .before .before .before .before .loop in
     let ps = c .before .before .before .before .before .before .before .args .rows .now in
-    (omega arith, ap (λ (q : Pending). set (l .records) (l .i) q) (c .pending-of2 .ensures) ∙ ap (λ (q : List Pending). set q (l .i) (pendingIn (getD ps (l .i) []))) (l .inv .1)
+    (omega arith, ap (λ (q : Pending). set (l .records) (l .i) q) (c .pending-of2 .ensures)
+    ∙ ap (λ (q : List Pending). set q (l .i) (pendingIn (getD ps (l .i) []))) (l .inv .1)
     ∙ grown pendingIn mostPending zeroPending ps [] (l .i) (omega arith) (omega arith))
 
 returns : tie.Need-returns Inv-loop μ-loop

@@ -52,7 +52,8 @@ loop-again c =
     let l = c .before .before .loop in
     let w = c .before .before .before .args .row .now in
     let n = length-drop 8 w in
-    (omega arith, ap (λ (k : ℕ). set (l .last) (l .i) (numberIn k)) (sym (getD-drop 8 w (l .i) 0)) ∙ ap (λ (q : List Number). set q (l .i) (numberIn (getD (drop 8 w) (l .i) 0))) (l .inv .1)
+    (omega arith, ap (λ (k : ℕ). set (l .last) (l .i) (numberIn k)) (sym (getD-drop 8 w (l .i) 0))
+    ∙ ap (λ (q : List Number). set q (l .i) (numberIn (getD (drop 8 w) (l .i) 0))) (l .inv .1)
     ∙ grown numberIn mostActors untaken (drop 8 w) 0 (l .i) (omega arith) (omega arith))
 
 returns : tie.Need-returns Inv-loop μ-loop

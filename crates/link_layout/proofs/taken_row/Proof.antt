@@ -51,7 +51,8 @@ loop-again c =
     let l = c .before .before .loop in
     let es = c .before .before .before .before .args .t .last in
     let n : length es ≡ mostActors = search (needs, length-mapped) in
-    (omega arith, ap (λ (q : List ℕ). set q (8 + l .i) (getD es (l .i) untaken .0)) (l .inv .1) ∙ grown-after es untaken (l .i) (omega arith) (omega arith))
+    (omega arith, ap (λ (q : List ℕ). set q (8 + l .i) (getD es (l .i) untaken .0)) (l .inv .1)
+    ∙ grown-after es untaken (l .i) (omega arith) (omega arith))
 
 returns : tie.Need-returns Inv-loop μ-loop
 returns c =

@@ -1,3 +1,5 @@
+-- `link_rows::drop_acked` meets its contract. The place of the record is looked for: past the count nothing changes, else it is taken out.
+-- Assumes nothing.
 use native.Mathlib.Omega.{arith}
 use Prim.Native.Nat.{_-_}
 use lib.ListN.{getD}

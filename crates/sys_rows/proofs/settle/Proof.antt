@@ -1,3 +1,5 @@
+-- `sys_rows::settle` meets its contract. The commands are noted; the marks stand aside of the durable part.
+-- Assumes nothing.
 use native.Mathlib.Omega.{arith}
 use mathlib.Core.Path.{_≡_, subst, sym}
 use mathlib.Core.List.{List}
