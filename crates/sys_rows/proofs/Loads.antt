@@ -1,21 +1,20 @@
 -- What a start begins with: an actor before any start, and live rows loaded from the stored ones.
 -- Assumes nothing.
-use Prim.Native.Nat.{ℕ, zero, suc, _+_, _≤_, _<_}
+use Prim.Native.Nat.{ℕ, zero, suc, _+_}
 use native.Mathlib.Omega.{arith}
 use mathlib.Core.Path.{_≡_, refl, sym, ap, _∙_}
 use mathlib.Core.Bool.{false}
-use mathlib.Core.List.{List, [], map}
-use lib.ListN.{length, take, drop, getD, set, length-set, replicate}
+use mathlib.Core.List.{List, []}
+use lib.ListN.{length, take, getD, set, length-set, replicate}
 use lib.Seq.{getD-set-same, getD-set-other}
 use Rattle.lists.specs.Lists.{choose}
-use Rattle.types.specs.Capacities.{mostPending, mostActors, lastState}
+use Rattle.types.specs.Capacities.{mostPending}
 use Rattle.types.specs.declared.Rule.{Rule}
 use Rattle.rules.specs.Link.{Durable, fresh, durableOf}
-use Rattle.rules.specs.System.{Actor, unstarted}
+use Rattle.rules.specs.System.{unstarted}
 use Rattle.link_timers.specs.Views.{listedFrom, listed}
-use Rattle.link_tables.specs.Rows.{mark}
-use Rattle.link_rows.specs.Rows.{rowSize, pendingIn, numberIn, storageIn, durableIn, HeadLaid}
-use Rattle.sys_rows.specs.Rows.{storedIn, actorOf, freshRow, TailLaid, RowsLaid, Loaded}
+use Rattle.link_rows.specs.Rows.{rowSize, storageIn, durableIn}
+use Rattle.sys_rows.specs.Rows.{storedIn, actorOf, freshRow, RowsLaid, Loaded}
 use Rattle.sys_rows.proofs.Laws.{aside, aside-head, tail-at, tail-marks, same-records, same-head}
 
 -- ---- nothing stored
@@ -105,7 +104,7 @@ module _ (k : List ℕ) (q p : List (List ℕ)) (laid : RowsLaid k q) (some : ge
       let r5 = length-set k 5 0 in
       let r6 = length-set w5 6 0 in
       let e5 : getD w 5 0 ≡ 0 =
-          getD-set-other w6 7 5 0 0 (λ z. omega arith) ∙ getD-set-other w5 6 5 0 0 (λ z. omega arith) ∙ getD-set-same k 5 0 0 (omega arith) in
+      getD-set-other w6 7 5 0 0 (λ z. omega arith) ∙ getD-set-other w5 6 5 0 0 (λ z. omega arith) ∙ getD-set-same k 5 0 0 (omega arith) in
       let e6 : getD w 6 0 ≡ 0 = getD-set-other w6 7 6 0 0 (λ z. omega arith) ∙ getD-set-same w5 6 0 0 (omega arith) in
       let e7 : getD w 7 0 ≡ 0 = getD-set-same w6 7 0 0 (omega arith) in
       record {

@@ -9,7 +9,6 @@ use Rattle.types.specs.Capacities.{mostPending, mostActors, lastState}
 use Rattle.types.specs.declared.Kind.{Kind}
 use Rattle.types.specs.declared.Rule.{Rule}
 use Rattle.types.specs.declared.LastMessage.{LastMessage}
-use Rattle.types.specs.declared.InnerCommand.{InnerCommand}
 use Rattle.rules.specs.Link.{Durable, durableOf, withTaken}
 use Rattle.rules.specs.System.{Actor}
 use Rattle.parts.specs.Parts.{Part}
@@ -17,7 +16,6 @@ use Rattle.link_timers.specs.Views.{listed}
 use Rattle.net_rows.specs.Views.{netOf}
 use Rattle.link_tables.specs.Rows.{mark}
 use Rattle.link_rows.specs.Rows.{rowSize, durableIn, HeadLaid}
-use Rattle.link_direct.specs.Direct.{noted}
 
 unfoldable pub storedIn : ℕ → Durable → Option Durable
 storedIn zero d = none
