@@ -69,20 +69,29 @@ pub fn len(n: Network) -> u64
     sum
 }
 
+// The network that the used cells are.
+pub fn read_back(kind: Kind, c: &[[u64; 4]], used: usize, last: LastMessage) -> Network
+    requires { ⌜ Readable (now c) used ⌝ }
+    ensures { λ r. ⌜ r ≡ readBack kind (now (c .entry)) used last ⌝ }
+{
+    let es = entries_of(c, used);
+    Network {
+        kind: kind,
+        entries: es,
+        used: used,
+        last: last,
+    }
+}
+
 // An answer with the network that the used cells are. After a refusal they are those of the network that came.
 fn laid_back(answer: Answer, kind: Kind, c: &[[u64; 4]], used: usize, last: LastMessage) -> Sent
     requires { ⌜ Readable (now c) used ⌝ }
     ensures { λ r. ⌜ r ≡ back answer (readBack kind (now (c .entry)) used last) ⌝ }
 {
-    let es = entries_of(c, used);
+    let n = read_back(kind, c, used, last);
     Sent {
         answer: answer,
-        network: Network {
-            kind: kind,
-            entries: es,
-            used: used,
-            last: last,
-        },
+        network: n,
     }
 }
 

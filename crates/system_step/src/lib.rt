@@ -1,21 +1,47 @@
-// A step of a whole system: 9 first, then the action on the network and the one actor that it touches.
-use act::act;
-use act::seat;
+// A step of a whole system: 9 first, then the network and the one actor that the action touches are laid out as rows, the action is
+// made on them, and they are laid back.
 use answers::Answer;
 use answers::is_done;
-use steps::Touched;
+use net_network::Network;
+use sys_actor::Actor;
 use system::System;
-use system_formed::well_formed;
 use system_parts::Answered;
 use types::Action;
+use types::Kind;
+use types::LastMessage;
 ghost use mathlib.Core.Path.{_≡_};
 ghost use Prim.Native.Nat.{_<_};
 ghost use Rattle.types.specs.Capacities.{mostActors};
 ghost use Rattle.rules.specs.Outcome.{base};
 ghost use Rattle.rules.specs.System.{systems, act};
+ghost use Rattle.sys_moves.specs.Views.{lastThen};
 ghost use Rattle.system.specs.Views.{sysView};
 ghost use Rattle.system_parts.specs.Views.{Ready, answeredOf};
-ghost use Rattle.system_step.specs.Views.{putTouched, stepOf};
+ghost use Rattle.system_step.specs.Views.{Touchable, Touches, putTouched, stepOf};
+
+// What an action leaves of network and actor. Where the answer is not Done, they are not to be used.
+struct Touched {
+    answer: Answer,
+    network: Network,
+    actor: Actor,
+}
+
+// The last message after an action that is done: on the duplicating kind a Deliver sets it.
+fn last_then(kind: Kind, a: Action, last: LastMessage) -> LastMessage
+    ensures { λ r. ⌜ r ≡ lastThen kind a last ⌝ }
+{
+    match a {
+        Action::Deliver(e) => match kind {
+            Kind::Ordered => last,
+            Kind::UnorderedDuplicating => LastMessage::Delivered(e),
+            Kind::UnorderedNonDuplicating => last,
+        },
+        Action::Drop(_) => last,
+        Action::Timeout(_, _) => last,
+        Action::Crash(_) => last,
+        Action::Recover(_) => last,
+    }
+}
 
 // Network and actor are put back in their places; a refusal hands back the system that came.
 fn put_back(s: System, i: usize, t: Touched) -> Answered
@@ -46,31 +72,3 @@ fn put_back(s: System, i: usize, t: Touched) -> Answered
     }
 }
 
-// The step of a system that is known to be well formed.
-fn act_on(s: System, a: Action) -> Answered
-    requires { ⌜ Ready s ⌝ }
-    ensures { λ r. ⌜ r ≡ answeredOf s (systems (act base (sysView s) a)) ⌝ }
-{
-    let count = s.count;
-    let i = seat(count, a);
-    let network = s.network;
-    let actors = s.actors;
-    let tables = s.tables;
-    let actor = actors[i];
-    let table = tables[i];
-    let t = act(a, count, network, actor, table);
-    put_back(s, i, t)
-}
-
-// Whatever the system holds.
-pub fn step(s: System, a: Action) -> Answered
-    ensures { λ r. ⌜ r ≡ answeredOf s (stepOf s a) ⌝ }
-{
-    if !well_formed(s) {
-        return Answered {
-            answer: Answer::NotWellFormed,
-            system: s,
-        };
-    }
-    act_on(s, a)
-}
