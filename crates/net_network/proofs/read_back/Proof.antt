@@ -1,4 +1,4 @@
--- The entries are those of the cells.
+-- The entries are those of the used cells, zero behind.
 -- Assumes nothing.
 use borrow.Author.Needs.{needs}
 use Rattle.net_network.proofs.read_back.Statement.{statement}
