@@ -127,7 +127,7 @@ pub fn on_drop(n: Network, e: Envelope) -> Sent
 }
 
 // The last message after a Deliver: on the duplicating kind, where none is refused, it is this one.
-fn last_after(kind: Kind, e: Envelope, last: LastMessage) -> LastMessage
+pub fn last_after(kind: Kind, e: Envelope, last: LastMessage) -> LastMessage
     ensures { λ r. ⌜ r ≡ lastAfter kind e last ⌝ }
 {
     match kind {
