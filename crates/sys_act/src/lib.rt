@@ -105,3 +105,60 @@ fn unheard(count: usize, e: Envelope) -> Answer
     Answer::OutOfRange
 }
 
+// ---- any action, among `count` actors, on the rows of the one at its seat
+pub fn act(
+    c: &mut [[u64; 4]; MOST_ENTRIES],
+    live: &mut [u64; ROW],
+    pend: &mut [[u64; RECORD]; MOST_PENDING],
+    kept: &mut [u64; ROW],
+    stored: &mut [[u64; RECORD]; MOST_PENDING],
+    table: &[[u64; 16]; MOST_RULES],
+    rules: usize,
+    kind: Kind,
+    used: usize,
+    len: u64,
+    count: usize,
+    a: Action,
+) -> Sent
+    requires { ⌜ Fine kind used len (rowsOf (now c) (now live) (now pend) (now kept) (now stored)) × TableLaid (now table) rules × (count ≤ mostActors) ⌝ }
+    ensures { λ r. ⌜ Stepped count a (seatOf count a) (rulesIn (now (table .entry)) rules) kind used len
+        (rowsOf (now (c .entry)) (now (live .entry)) (now (pend .entry)) (now (kept .entry)) (now (stored .entry)))
+        r (rowsOf (now (c .exit)) (now (live .exit)) (now (pend .exit)) (now (kept .exit)) (now (stored .exit))) ⌝ }
+{
+    let i = actor_of(a);
+    let here = known(count, i);
+    match a {
+        Action::Deliver(e) => {
+            if !here {
+                return answered(unheard(count, e), used, len);
+            }
+            sys_deliver::deliver(
+                c, live, pend, kept, stored, table, rules, kind, used, len, count, e,
+            )
+        }
+        Action::Drop(e) => drop(c, kind, used, len, count, e),
+        Action::Timeout(j, timer) => {
+            if !here {
+                return answered(Answer::OutOfRange, used, len);
+            }
+            sys_timeout::timeout(
+                c, live, pend, kept, stored, table, rules, kind, used, len, count, j, timer,
+            )
+        }
+        Action::Crash(_) => {
+            if !here {
+                return answered(Answer::OutOfRange, used, len);
+            }
+            crash(live);
+            answered(Answer::Done, used, len)
+        }
+        Action::Recover(j) => {
+            if !here {
+                return answered(Answer::OutOfRange, used, len);
+            }
+            sys_wake::recover(
+                c, live, pend, kept, stored, table, rules, kind, used, len, count, j,
+            )
+        }
+    }
+}

@@ -7,7 +7,7 @@ use mathlib.Core.Option.{Option, none, some}
 use mathlib.Core.List.{List, map}
 use lib.ListN.{length, take, drop, getD, set, length-set}
 use lib.Seq.{getD-set-same, getD-set-other, getD-drop, drop-set-lt}
-use Rattle.types.specs.Capacities.{mostPending, lastState}
+use Rattle.types.specs.Capacities.{mostPending, mostActors, lastState}
 use Rattle.types.specs.declared.Rule.{Rule}
 use Rattle.types.specs.declared.InnerCommand.{InnerCommand}
 use Rattle.rules.specs.Link.{Durable}
@@ -49,6 +49,17 @@ tail-at w i = getD-drop 4 w i 0
 
 tail-same : (w w' : List ℕ) → drop 4 w' ≡ drop 4 w → (i : ℕ) → getD w' (4 + i) 0 ≡ getD w (4 + i) 0
 tail-same w w' e i = sym (tail-at w' i) ∙ ap (λ (l : List ℕ). getD l i 0) e ∙ tail-at w i
+
+-- What is laid out, at its places.
+module _ (w : List ℕ) (p : List (List ℕ)) (laid : RowsLaid w p) where
+  pub sources-small : getD w 4 0 ≤ mostActors
+  sources-small = let a = tail-at w 0 in let b = laid .tail .sources in omega arith
+
+  pub timers-small : getD w 6 0 < 4294967296
+  timers-small = let a = tail-at w 2 in let b = laid .tail .timers in omega arith
+
+  pub state-small : getD w 7 0 ≤ lastState
+  state-small = let a = tail-at w 3 in let b = laid .tail .state in omega arith
 
 -- Another row with the same count of sources, and the same words from place 8 on.
 pub tail-marks : (w v : List ℕ) → TailLaid (drop 4 w) → getD v 4 0 ≡ getD w 4 0 → getD v 6 0 < 4294967296 → getD v 7 0 ≤ lastState

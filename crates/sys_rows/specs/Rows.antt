@@ -8,7 +8,7 @@ use lib.ListN.{length, take, drop, getD, set, replicate}
 use Rattle.types.specs.Capacities.{mostPending, mostActors, lastState}
 use Rattle.types.specs.declared.Rule.{Rule}
 use Rattle.types.specs.declared.InnerCommand.{InnerCommand}
-use Rattle.rules.specs.Link.{Durable, durableOf, withTaken}
+use Rattle.rules.specs.Link.{Durable, withTaken}
 use Rattle.rules.specs.System.{Actor}
 use Rattle.link_timers.specs.Views.{listed}
 use Rattle.link_tables.specs.Rows.{mark}
@@ -60,14 +60,6 @@ pub record Kept (w : List ℕ) (p : List (List ℕ)) (k : List ℕ) (q : List (L
   pub row : k ≡ set w 5 1
   pub records : take (getD w 1 0) q ≡ take (getD w 1 0) p
   pub places : length q ≡ mostPending
-
--- The live rows become what is stored, or fresh ones: neither crashed nor timers nor state.
-pub record Loaded (k : List ℕ) (q : List (List ℕ)) (w : List ℕ) (p : List (List ℕ)) : Type 0 where
-  pub durable : durableIn w p ≡ durableOf (storedIn (getD k 5 0) (durableIn k q))
-  pub crashed : getD w 5 0 ≡ 0
-  pub timers : getD w 6 0 ≡ 0
-  pub state : getD w 7 0 ≡ 0
-  pub laid : RowsLaid w p
 
 -- A number last taken is noted: the durable part is the rules' one, and the marks and the pending count stay. Rows that were laid out are so still.
 pub record Noticed (source number : ℕ) (w w' : List ℕ) : Type 0 where

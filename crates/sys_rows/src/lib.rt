@@ -14,7 +14,7 @@ ghost use Rattle.rules.specs.Link.{acked};
 ghost use Rattle.link_rows.specs.Rows.{rowSize, durableIn};
 ghost use Rattle.link_direct.specs.Direct.{noted, sends};
 ghost use Rattle.link_tables.specs.Rows.{RowLaid, orders};
-ghost use Rattle.sys_rows.specs.Rows.{freshRow, TailLaid, RowsLaid, Settled, Kept, Loaded, Noticed};
+ghost use Rattle.sys_rows.specs.Rows.{freshRow, TailLaid, RowsLaid, Settled, Kept, Noticed};
 
 // All of it is stored: the row, and of the pending records those that are counted.
 pub fn store(
@@ -38,36 +38,6 @@ pub fn fresh_row() -> [u64; ROW]
     let mut row = [0u64; ROW];
     row[0] = 1;
     row
-}
-
-// A stored row becomes a live one: its mark goes, and what it has of timers and state.
-fn without_marks(kept: &[u64; ROW]) -> [u64; ROW]
-    requires { ⌜ length (now kept) ≡ rowSize ⌝ }
-    ensures { λ r. ⌜ r ≡ set (set (set (now (kept .entry)) 5 0) 6 0) 7 0 ⌝ }
-{
-    let mut row = *kept;
-    row[5] = 0;
-    row[6] = 0;
-    row[7] = 0;
-    row
-}
-
-// What a start begins with: the live rows become what is stored, or fresh ones where nothing is.
-pub fn load(
-    live: &mut [u64; ROW],
-    pend: &mut [[u64; RECORD]; MOST_PENDING],
-    kept: &[u64; ROW],
-    stored: &[[u64; RECORD]; MOST_PENDING],
-)
-    requires { ⌜ RowsLaid (now kept) (now stored) × (length (now pend) ≡ mostPending) ⌝ }
-    ensures { λ _. ⌜ Loaded (now (kept .entry)) (now (stored .entry)) (now (live .exit)) (now (pend .exit)) ⌝ }
-{
-    if kept[5] == 0 {
-        *live = fresh_row();
-        return;
-    }
-    *live = without_marks(kept);
-    copy_records(stored, pend, kept[1] as usize);
 }
 
 // Timers and state are put in place.

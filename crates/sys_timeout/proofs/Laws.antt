@@ -2,7 +2,7 @@
 -- Assumes nothing.
 use Prim.Native.Nat.{ℕ, suc, _+_, _≤_, _<_}
 use native.Mathlib.Omega.{arith}
-use mathlib.Core.Path.{_≡_, refl, sym, ap, _∙_}
+use mathlib.Core.Path.{_≡_, refl, sym, ap, _∙_, subst}
 use mathlib.Core.Bool.{Bool, true, false}
 use mathlib.Core.List.{List, [], _∷_, map}
 use lib.ListN.{length, take, getD, set, length-set, length-map}
@@ -241,3 +241,8 @@ module _ (me : Id) (count : ℕ) (rs : List Rule) (kind : Kind) (used n : ℕ) (
           let z = safe .kept f in
           (λ j. record { cells = z .0 j; live = x .live; pend = x .pend; kept = x .kept; stored = x .stored }, z .1, z .2);
     }
+
+-- The timer is Network.
+pub as-network : (me : Id) (count : ℕ) (rs : List Rule) (kind : Kind) (used n : ℕ) (x : Rows) (t : ℕ) (r : Sent) (x' : Rows) → t ≡ network
+    → Stepped count (Timeout me network) me rs kind used n x r x' → Stepped count (Timeout me t) me rs kind used n x r x'
+as-network me count rs kind used n x t r x' e s = subst (λ (u : ℕ). Stepped count (Timeout me u) me rs kind used n x r x') (sym e) s

@@ -19,8 +19,9 @@ use Rattle.link_tables.proofs.Told.{zero-laid}
 use Rattle.link_tables.proofs.Replies.{start-is, row-replies, none-replies}
 use Rattle.link_rows.specs.Rows.{rowSize, pendingIn, numberIn, storageIn, durableIn, HeadLaid}
 use Rattle.link_rows.proofs.Heads.{sendable-same}
-use Rattle.sys_rows.specs.Rows.{storedIn, TailLaid, RowsLaid, Settled}
+use Rattle.sys_rows.specs.Rows.{storedIn, freshRow, TailLaid, RowsLaid, Settled}
 use Rattle.sys_rows.proofs.Laws.{aside, aside-head, tail-at, tail-marks}
+use Rattle.sys_rows.proofs.Fresh.{fresh-durable, fresh-laid}
 use Rattle.sys_moves.proofs.Taken.{timers-small}
 use Rattle.sys_wake.specs.Starts.{begun, Loaded, savedIn, startPlace, startRow}
 
@@ -101,34 +102,12 @@ begun-some k q n = go (getD k 5 0) n
     go zero n = absurd (n refl)
     go (suc m) n = refl
 
--- The row of the fresh durable part.
-abbrev freshRow : List ℕ
-freshRow = set (replicate rowSize 0) 0 1
-
-fresh-is : (p : List (List ℕ)) → durableIn freshRow p ≡ fresh
-unfolding durableIn fresh storageIn
-fresh-is p = refl
-
-zeros : (n i : ℕ) → _≡_ {A = ℕ} (getD (replicate n 0) i 0) 0
-zeros zero i = refl
-zeros (suc n) zero = refl
-zeros (suc n) (suc i) = zeros n i
-
-fresh-laid : (p : List (List ℕ)) → length p ≡ mostPending → RowsLaid freshRow p
-fresh-laid p e = record {
-  room = refl;
-  places = e;
-  pending = omega arith;
-  head = record { sendable = record { dst = λ i h. absurd (omega arith); payload = λ i h. absurd (omega arith) }; saves = omega arith; value = omega arith };
-  tail = record { sources = omega arith; timers = omega arith; state = omega arith; rest = λ i a b. zeros 28 (4 + i) };
-}
-
 module _ (w k : List ℕ) (p q : List (List ℕ)) (live : RowsLaid w p) (kept : RowsLaid k q) where
   few : getD w 6 0 < 4294967296
   few = timers-small w p live
 
   pub loaded-fresh : getD k 5 0 ≡ 0 → Loaded w k q (set (set (set freshRow 5 (getD w 5 0)) 6 (getD w 6 0)) 7 0) p
-  loaded-fresh e = rw (begun-none k q e, ← fresh-is p) (marked freshRow p (fresh-laid p (live .places)) (getD w 5 0) (getD w 6 0) few w refl)
+  loaded-fresh e = rw (begun-none k q e, ← fresh-durable p) (marked freshRow p (fresh-laid p (live .places)) (getD w 5 0) (getD w 6 0) few w refl)
 
   -- The records that are counted are copied.
   module _ (p' : List (List ℕ)) (same : take (getD k 1 0) p' ≡ take (getD k 1 0) q) (places : length p' ≡ mostPending) where

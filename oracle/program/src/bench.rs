@@ -1,7 +1,7 @@
 //! The port beside the Rust on the same scripts, in one run: how many actions a second each performs. One long script of each
 //! kind, with a small system (2 actors) and a large one (8 actors, about 100 entries). The Rust is timed on `next_state` alone.
 use crate::drive::{model, rust_action, start};
-use crate::ours::{reads, replay, Room};
+use crate::ours::{measure, reads, replay, replay_into, Room};
 use crate::report::{report, Options};
 use crate::script::{envelope, size, write, Action, Env, Script, LONGEST};
 use crate::table::{Command, Rule, MESSAGE, START};
@@ -69,34 +69,75 @@ fn rate(actions: usize, time: Duration) -> f64 {
     actions as f64 / time.as_secs_f64()
 }
 
+/// What one script takes: the whole replay, its parts, and the Rust on the same actions.
+struct Times {
+    entries: usize,
+    actions: usize,
+    port: Duration,
+    rust: Duration,
+    reading: Duration,
+    starting: Duration,
+    measuring: Duration,
+}
+
+fn times(script: &Script, room: &mut Room) -> Times {
+    let bytes = write(script);
+    assert_eq!(replay(&bytes, room), report(&bytes, Options::default()), "both give the same output");
+    let opening = write(&Script { actions: vec![], ..script.clone() });
+    let (model, first) = (model(script), start(script).expect("it starts").system);
+    let actions: Vec<_> = script.actions.iter().map(rust_action).collect();
+    Times {
+        entries: entries(&first.network).len(),
+        actions: script.actions.len(),
+        port: shortest(|| drop(replay_into(&bytes, room))),
+        rust: shortest(|| {
+            let mut system = first.clone();
+            for action in &actions {
+                system = model.next_state(&system, action.clone()).expect("it is done");
+            }
+        }),
+        reading: shortest(|| assert!(reads(&bytes))),
+        starting: shortest(|| drop(replay_into(&opening, room))),
+        measuring: shortest(|| drop(measure(&bytes))),
+    }
+}
+
+/// A row of each table: the rates, and where the time of the port goes, in nanoseconds for an action.
+fn rows(kind: u8, actors: usize, t: &Times) -> (String, String) {
+    let each = |time: Duration| time.as_secs_f64() * 1e9 / t.actions as f64;
+    let stepping = t.measuring.saturating_sub(t.reading).saturating_sub(t.starting);
+    let place = format!("| {kind} | {actors} | {} |", t.entries);
+    let rates = format!(
+        "{place} {} | {:.0} | {:.0} | {:.1} |",
+        t.actions,
+        rate(t.actions, t.port),
+        rate(t.actions, t.rust),
+        t.rust.as_secs_f64() / t.port.as_secs_f64()
+    );
+    let parts = format!(
+        "{place} {:.0} | {:.1} | {:.1} | {:.1} | {:.1} |",
+        t.starting.as_secs_f64() * 1e9,
+        each(t.port),
+        each(t.reading),
+        each(stepping),
+        each(t.port.saturating_sub(t.measuring))
+    );
+    (rates, parts)
+}
+
 pub fn bench() {
     let mut room = Room::new();
-    println!("| kind | actors | entries | actions | port, actions/s | reading alone, actions/s | Rust `next_state`, actions/s | port / Rust |");
-    println!("|---|---|---|---|---|---|---|---|");
+    let mut parts = Vec::new();
+    println!("| kind | actors | entries | actions | port, actions/s | Rust `next_state`, actions/s | port / Rust |");
+    println!("|---|---|---|---|---|---|---|");
     for kind in 0..3 {
         for (actors, others) in [(2, 0), (8, 92)] {
-            let script = script(kind, actors, others);
-            let bytes = write(&script);
-            assert_eq!(replay(&bytes, &mut room), report(&bytes, Options::default()), "both give the same output");
-            let count = script.actions.len();
-            let port = shortest(|| drop(replay(&bytes, &mut room)));
-            let reading = shortest(|| assert!(reads(&bytes)));
-            let (model, first) = (model(&script), start(&script).expect("it starts").system);
-            let actions: Vec<_> = script.actions.iter().map(rust_action).collect();
-            let rust = shortest(|| {
-                let mut system = first.clone();
-                for action in &actions {
-                    system = model.next_state(&system, action.clone()).expect("it is done");
-                }
-            });
-            let there = entries(&first.network).len();
-            println!(
-                "| {kind} | {actors} | {there} | {count} | {:.0} | {:.0} | {:.0} | {:.2} |",
-                rate(count, port),
-                rate(count, reading),
-                rate(count, rust),
-                rust.as_secs_f64() / port.as_secs_f64()
-            );
+            let (rates, part) = rows(kind, actors, &times(&script(kind, actors, others), &mut room));
+            println!("{rates}");
+            parts.push(part);
         }
     }
+    println!("\n| kind | actors | entries | starting, ns | an action, ns | reading, ns | stepping, ns | writing, ns |");
+    println!("|---|---|---|---|---|---|---|---|");
+    parts.iter().for_each(|part| println!("{part}"));
 }

@@ -38,6 +38,16 @@ pub fn replay(script: &[u8], room: &mut Room) -> String {
     String::from_utf8_lossy(&room.output[..size]).into_owned()
 }
 
+/// How long the output is; it stands in the room.
+pub fn replay_into(script: &[u8], room: &mut Room) -> usize {
+    unsafe { states_replay(script, &mut room.output) }
+}
+
+/// How long the output would be: all but the writing is done.
+pub fn measure(script: &[u8]) -> usize {
+    unsafe { states_replay(script, &mut []) }
+}
+
 /// Whether the port finds the layout good.
 pub fn reads(script: &[u8]) -> bool {
     unsafe { states_reads(script) }
