@@ -88,7 +88,7 @@ zero-command (CancelTimer t) q = absurd (false≢true q)
 zero-command (Send a b c d) q = absurd (false≢true q)
 zero-command (Save a b) q = absurd (false≢true q)
 
-zero-slot : (s : Slot) → unused s ≡ true → s ≡ zeroSlot
+pub zero-slot : (s : Slot) → unused s ≡ true → s ≡ zeroSlot
 unfolding unused
 zero-slot s e = let f = zero-command (s .command) e in λ i. record { command = f i }
 

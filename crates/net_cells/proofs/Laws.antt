@@ -55,7 +55,9 @@ module _ (s d t s' d' t' : ℕ) (hd : d < 256) (ht : t < tags) (hd' : d' < 256) 
   pub head-order : cmpN (headWith s d t) (headWith s' d' t') ≡ andThen (cmpN s s') (andThen (cmpN d d') (cmpN t t'))
   head-order = go (cmpN s s') refl (cmpN d d') refl (cmpN t t') refl
     where
-      go : (o : Order) → cmpN s s' ≡ o → (p : Order) → cmpN d d' ≡ p → (q : Order) → cmpN t t' ≡ q → cmpN (headWith s d t) (headWith s' d' t') ≡ andThen o (andThen p q)
+      go
+          : (o : Order) → cmpN s s' ≡ o → (p : Order) → cmpN d d' ≡ p → (q : Order) → cmpN t t' ≡ q
+          → cmpN (headWith s d t) (headWith s' d' t') ≡ andThen o (andThen p q)
       go Less e p f q g = less (headWith s d t) (headWith s' d' t') (omega (arith, by s s' Less e))
       go Greater e p f q g = greater (headWith s d t) (headWith s' d' t') (omega (arith, by s s' Greater e))
       go Equal e Less f q g = less (headWith s d t) (headWith s' d' t') (omega (arith, by s s' Equal e, by d d' Less f))
@@ -80,8 +82,11 @@ Narrow x = Thin (x .envelope)
 pub cell-order : (x y : Entry) → Narrow x → Narrow y → cmpCell (cellOf x) (cellOf y) ≡ cmpEnvelope (x .envelope) (y .envelope)
 unfolding cmpCell cellOf cmpEnvelope
 cell-order x y h k =
-    ap (λ (o : Order). andThen o (andThen (cmpN (numberOf (x .envelope .msg)) (numberOf (y .envelope .msg))) (cmpN (payloadOf (x .envelope .msg)) (payloadOf (y .envelope .msg)))))
-    (head-order (x .envelope .src .0) (x .envelope .dst .0) (tagOf (x .envelope .msg)) (y .envelope .src .0) (y .envelope .dst .0) (tagOf (y .envelope .msg)) (h .dst) (tag-few (x .envelope .msg)) (k .dst) (tag-few (y .envelope .msg)))
+    let a = x .envelope in
+    let b = y .envelope in
+    ap
+    (λ (o : Order). andThen o (andThen (cmpN (numberOf (a .msg)) (numberOf (b .msg))) (cmpN (payloadOf (a .msg)) (payloadOf (b .msg)))))
+    (head-order (a .src .0) (a .dst .0) (tagOf (a .msg)) (b .src .0) (b .dst .0) (tagOf (b .msg)) (h .dst) (tag-few (a .msg)) (k .dst) (tag-few (b .msg)))
     ∙ simp (andThen-assoc, andThen-equal)
 
 pub cell-flow : (x : Entry) → flowOf (cellOf x) ≡ x .envelope .src .0 * 256 + x .envelope .dst .0
@@ -91,7 +96,9 @@ cell-flow x = omega (arith, tag-few (x .envelope .msg))
 flow-order : (s d s' d' : ℕ) → d < 256 → d' < 256 → leb (s * 256 + d) (s' * 256 + d') ≡ not (isLess (andThen (cmpN s' s) (andThen (cmpN d' d) Equal)))
 flow-order s d s' d' h k = go (cmpN s' s) refl (cmpN d' d) refl
   where
-    go : (o : Order) → cmpN s' s ≡ o → (p : Order) → cmpN d' d ≡ p → leb (s * 256 + d) (s' * 256 + d') ≡ not (isLess (andThen o (andThen p Equal)))
+    go
+        : (o : Order) → cmpN s' s ≡ o → (p : Order) → cmpN d' d ≡ p
+        → leb (s * 256 + d) (s' * 256 + d') ≡ not (isLess (andThen o (andThen p Equal)))
     go Less e p f = lt-leb (s * 256 + d) (s' * 256 + d') (omega (arith, by s' s Less e))
     go Greater e p f = le-leb (s * 256 + d) (s' * 256 + d') (omega (arith, by s' s Greater e))
     go Equal e Less f = lt-leb (s * 256 + d) (s' * 256 + d') (omega (arith, by s' s Equal e, by d' d Less f))
@@ -101,7 +108,9 @@ flow-order s d s' d' h k = go (cmpN s' s) refl (cmpN d' d) refl
 -- x is of a flow up to that of y
 pub cell-flows : (x y : Entry) → Narrow x → Narrow y → leb (flowOf (cellOf x)) (flowOf (cellOf y)) ≡ not (isLess (cmpFlow (y .envelope) (x .envelope)))
 unfolding cmpFlow
-cell-flows x y h k = ap₂ leb (cell-flow x) (cell-flow y) ∙ flow-order (x .envelope .src .0) (x .envelope .dst .0) (y .envelope .src .0) (y .envelope .dst .0) (h .dst) (k .dst)
+cell-flows x y h k =
+    ap₂ leb (cell-flow x) (cell-flow y)
+    ∙ flow-order (x .envelope .src .0) (x .envelope .dst .0) (y .envelope .src .0) (y .envelope .dst .0) (h .dst) (k .dst)
 
 -- ---- back
 message-back : (m : Message) → messageOf (tagOf m) (numberOf m) (payloadOf m) ≡ m
@@ -146,9 +155,13 @@ back-all (x ∷ l) h = ap₂ (λ (y : Entry) (m : List Entry). y ∷ m) (back x 
 module _ {A B : Type 0} (f : A → B) (P : A → Type 0) where
   pub lead-cells : (p : B → Bool) (q : A → Bool) → ((x : A) → P x → p (f x) ≡ q x) → (l : List A) → All P l → lead p (map f l) ≡ lead q l
   lead-cells p q e [] h = refl
-  lead-cells p q e (x ∷ l) h = ap (λ (b : Bool). elim b [ true ↦ suc (lead p (map f l)) | false ↦ 0 ]) (e x (h .0)) ∙ ap (λ (n : ℕ). elim (q x) [ true ↦ suc n | false ↦ 0 ]) (lead-cells p q e l (h .1))
+  lead-cells p q e (x ∷ l) h =
+      ap (λ (b : Bool). elim b [ true ↦ suc (lead p (map f l)) | false ↦ 0 ]) (e x (h .0))
+      ∙ ap (λ (n : ℕ). elim (q x) [ true ↦ suc n | false ↦ 0 ]) (lead-cells p q e l (h .1))
 
-  pub chain-cells : (R : B → B → Bool) (S : A → A → Bool) → ((x y : A) → P x → P y → R (f x) (f y) ≡ S x y) → (l : List A) → All P l → chain R (map f l) ≡ chain S l
+  pub chain-cells
+      : (R : B → B → Bool) (S : A → A → Bool) → ((x y : A) → P x → P y → R (f x) (f y) ≡ S x y) → (l : List A) → All P l
+      → chain R (map f l) ≡ chain S l
   unfolding chain
   chain-cells R S e [] h = refl
   chain-cells R S e (x ∷ []) h = refl
@@ -207,7 +220,9 @@ module _ (x k : List ℕ) where
   unfolding cmpCell
   other-head n = go (cmpN (getD x 0 0) (getD k 0 0)) refl
     where
-      go : (o : Order) → cmpN (getD x 0 0) (getD k 0 0) ≡ o → false ≡ isEqual (andThen o (andThen (cmpN (getD x 1 0) (getD k 1 0)) (cmpN (getD x 2 0) (getD k 2 0))))
+      go
+          : (o : Order) → cmpN (getD x 0 0) (getD k 0 0) ≡ o
+          → false ≡ isEqual (andThen o (andThen (cmpN (getD x 1 0) (getD k 1 0)) (cmpN (getD x 2 0) (getD k 2 0))))
       go Less e = refl
       go Equal e = absurd (n (by (getD x 0 0) (getD k 0 0) Equal e))
       go Greater e = refl
@@ -232,7 +247,10 @@ pub with-count : (x : Entry) (w : List ℕ) → Packed (single (x .envelope)) w 
 unfolding cellOf entryOf single
 with-count x w p =
     let q : entryOf (cellOf (single (x .envelope))) .envelope ≡ x .envelope = ap (λ (y : Entry). y .envelope) (ap entryOf (sym (p .cell)) ∙ p .back) in
-    record { cell = rw (p .cell); back = ap (λ (v : List ℕ). entryOf (set v 3 (x .count))) (p .cell) ∙ (λ i. record { envelope = q i; count = x .count }) }
+    record {
+      cell = rw (p .cell);
+      back = ap (λ (v : List ℕ). entryOf (set v 3 (x .count))) (p .cell) ∙ (λ i. record { envelope = q i; count = x .count });
+    }
 
 -- ---- back: a Deliver by its tag, any other message an Ack
 pub is-deliver : (t n p : ℕ) → t ≡ 0 → _≡_ {A = Message} (Deliver (record { 0 = n }) (record { 0 = p })) (messageOf t n p)

@@ -1,9 +1,9 @@
 // Whether a network is well formed, asked of any content that the struct can hold.
+use net_cells::zero_entry;
 use net_compare::before;
 use net_compare::flow_before;
 use net_compare::same_envelope;
 use net_network::Network;
-use net_cells::zero_entry;
 use types::Entry;
 use types::Envelope;
 use types::Kind;

@@ -6,15 +6,13 @@ use net_cells::zero_entry;
 use types::Entry;
 use types::MOST_ENTRIES;
 ghost use mathlib.Core.Path.{_≡_};
-ghost use mathlib.Core.Bool.{true};
 ghost use mathlib.Core.List.{map};
 ghost use Prim.Native.Nat.{_≤_};
-ghost use lib.ListN.{length, take};
-ghost use lib.Dec.{leb};
-ghost use Rattle.lists.specs.Lists.{all, pad};
-ghost use Rattle.types.specs.Capacities.{mostEntries, mostCopies};
+ghost use lib.ListN.{take};
+ghost use Rattle.lists.specs.Lists.{pad};
+ghost use Rattle.types.specs.Capacities.{mostEntries};
 ghost use Rattle.net_cells.specs.Cells.{entryOf, zeroEntry};
-ghost use Rattle.net_layout.specs.Layout.{LaidOut};
+ghost use Rattle.net_layout.specs.Layout.{LaidOut, Readable};
 
 // The used entries as cells; the other cells are zero.
 pub fn cells_of(entries: [Entry; MOST_ENTRIES], used: usize) -> [[u64; 4]; MOST_ENTRIES]
@@ -33,9 +31,7 @@ pub fn cells_of(entries: [Entry; MOST_ENTRIES], used: usize) -> [[u64; 4]; MOST_
 
 // The entries that the used cells are; the other entries are zero.
 pub fn entries_of(c: &[[u64; 4]], used: usize) -> [Entry; MOST_ENTRIES]
-    requires {
-        ⌜ (used ≤ length (now c)) × (used ≤ mostEntries) × (all (λ x. leb (x .count) mostCopies) (map entryOf (take used (now c))) ≡ true) ⌝
-    }
+    requires { ⌜ Readable (now c) used ⌝ }
     ensures { λ r. ⌜ r ≡ pad mostEntries zeroEntry (map entryOf (take used (now (c .entry)))) ⌝ }
 {
     let z = zero_entry();

@@ -20,7 +20,7 @@ use Rattle.answers.specs.Answers.{answerOf}
 use Rattle.rules.specs.Outcome.{Outcome, done, guard, Room, base}
 use Rattle.rules.specs.Network.{Net, sending, send, isDuplicating, dropping, delivering, present, onDeliver, onDrop, len}
 use Rattle.net_cells.specs.Cells.{cellOf, entryOf}
-use Rattle.net_layout.specs.Layout.{LaidOut}
+use Rattle.net_layout.specs.Layout.{LaidOut, Readable}
 use Rattle.net_layout.proofs.Laws.{out-room, out-used, out-entries}
 use Rattle.net_rows.specs.declared.Sent.{Sent}
 use Rattle.net_rows.specs.Views.{netOf, roomOf, Changed}
@@ -28,7 +28,7 @@ use Rattle.net_rows.specs.Views as rows
 use Rattle.net_rows.proofs.Ready as kept
 use Rattle.net_network.specs.declared.Network.{Network}
 use Rattle.net_network.specs.Views.{zeroEntry, entryList, netView, networkOf, NetLaid, NetReady, back, sentOf}
-use Rattle.net_network.specs.Parts.{Readable, readBack, lastAfter}
+use Rattle.net_network.specs.Parts.{readBack, lastAfter}
 
 module _ (n : Network) (laid : NetLaid n) where
   pub used-is : length (entryList n) ≡ n .used
@@ -170,5 +170,5 @@ module _
   deliver-back e c = (
     readable-by c (unfold onDeliver in kept.deliver-ready (n .kind) (n .last) cs (n .used) count before s cs' e c),
     guarded-back _ 3 (delivering e (netView n)) _ (delivering-kind e (netView n)) (delivering-last e (netView n))
-    (refused-last (n .kind) e (n .last) (present e (netView n))) (as-struct (λ r m. onDeliver e m) c),
+        (refused-last (n .kind) e (n .last) (present e (netView n))) (as-struct (λ r m. onDeliver e m) c),
   )

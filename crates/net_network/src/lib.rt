@@ -16,8 +16,9 @@ ghost use Rattle.types.specs.declared.LastMessage.the-variants.{Nothing};
 ghost use Rattle.types.specs.Capacities.{mostEntries, mostCopies};
 ghost use Rattle.rules.specs.Outcome.{base};
 ghost use Rattle.rules.specs.Network.{send, onDeliver, onDrop, len};
+ghost use Rattle.net_layout.specs.Layout.{Readable};
 ghost use Rattle.net_network.specs.Views.{entryList, netView, networkOf, NetReady, back, sentOf};
-ghost use Rattle.net_network.specs.Parts.{Readable, readBack, lastAfter};
+ghost use Rattle.net_network.specs.Parts.{readBack, lastAfter};
 
 // Places from the used count on hold the zero entry.
 pub struct Network {
@@ -108,12 +109,12 @@ pub fn on_drop(n: Network, e: Envelope) -> Sent
     let kind = n.kind;
     let es = n.entries;
     let used = n.used;
-    let last = n.last;
+    let kept = n.last;
     let count = len(n);
     let mut cells = cells_of(es, used);
     let s = net_rows::on_drop(&mut cells, kind, used, count, e);
     let answer = s.answer;
-    laid_back(answer, kind, &cells, s.used, last)
+    laid_back(answer, kind, &cells, s.used, kept)
 }
 
 // The last message after a Deliver: on the duplicating kind, where none is refused, it is this one.

@@ -13,7 +13,7 @@ use borrow.Author.Tests.{le-leb, lt-leb, leb-true}
 use Rattle.lists.specs.Lists.{choose, all, lead, ins, del}
 use Rattle.lists.proofs.Places.{length-ins, lead-le}
 use Rattle.lists.proofs.Members.{and-both}
-use Rattle.lists.proofs.Sorted.{All}
+use Rattle.lists.proofs.Sorted.{All, all-at}
 use Rattle.types.specs.declared.Entry.{Entry}
 use Rattle.types.specs.declared.Kind.{Kind}
 use Rattle.types.specs.declared.Kind.the-variants.{UnorderedNonDuplicating}
@@ -25,10 +25,11 @@ use Rattle.types.specs.Capacities.{mostCopies}
 use Rattle.rules.specs.Outcome.{Outcome, done, refused, guard, Room}
 use Rattle.rules.specs.Network.{Net, single, again, lowered, fits, len}
 use Rattle.net_cells.specs.Cells.{zeroEntry, cellOf, entryOf}
+use Rattle.net_slots.specs.Search.{Moved}
 use Rattle.net_slots.proofs.Tests.{all-ins, all-set}
 use Rattle.net_cells.proofs.Laws.{Narrow, back-all, narrow, narrow-all}
-use Rattle.net_rows.specs.Views.{entryList, roomOf, mostRoom, NetLaid, Holds, Left, Changed}
-use Rattle.net_rows.specs.Parts.{envelopeIn, Alone, netWith, fitting, takenAt}
+use Rattle.net_rows.specs.Views.{entryList, netWith, roomOf, mostRoom, NetLaid, Holds, Left, Changed, takenAt, TakesOut}
+use Rattle.net_rows.specs.Parts.{envelopeIn, Alone, fitting, countedAt, Enters}
 
 -- ---- maps and places
 module _ {A B : Type 0} (f : A → B) where
@@ -73,11 +74,6 @@ module _ {A : Type 0} (P : A → Type 0) where
   set-all at a [] p h = tt
   set-all zero a (x ∷ l) p h = (p, h .1)
   set-all (suc at) a (x ∷ l) p h = (h .0, set-all at a l p (h .1))
-
-  get-all : (i : ℕ) (l : List A) (d : A) → i < length l → All P l → P (getD l i d)
-  get-all i [] d h p = absurd (not-suc-le-zero h)
-  get-all zero (x ∷ l) d h p = p .0
-  get-all (suc i) (x ∷ l) d h p = get-all i l d (le-of-suc-le-suc h) (p .1)
 
 -- ---- `len` after a change at a place
 len-ins : (at : ℕ) (a : Entry) (l : List Entry) → at ≤ length l → len (ins at a l) ≡ len l + a .count
@@ -130,21 +126,28 @@ module _ (c : Room) (k : Kind) (last : LastMessage) (l : List Entry) where
   fitting-many h m = rw (le-leb (length l) (c .entries) h, m)
 
 -- ---- what is left
-pub changed-done : (cs : List (List ℕ)) (used n : ℕ) (o : Outcome Net) (m : Net) → o ≡ done m → (cs' : List (List ℕ)) → length cs' ≡ length cs → (u v : ℕ) → Holds cs' u v (m .entries)
+pub changed-done
+    : {cs cs' : List (List ℕ)} {used n u v : ℕ} {o : Outcome Net} {m : Net} → o ≡ done m → length cs' ≡ length cs → Holds cs' u v (m .entries)
     → Changed cs used n o (record { answer = Done; used = u; len = v }) cs'
-changed-done cs used n o m e cs' r u v h =
+changed-done {cs} {cs'} {used} {n} {u} {v} e r h =
     record { room = r; left = subst (λ (q : Outcome Net). Left cs used n q (record { answer = Done; used = u; len = v }) cs') (sym e) (refl, h) }
 
-pub changed-not : (cs : List (List ℕ)) (used n : ℕ) (o : Outcome Net) (k : ℕ) → o ≡ refused k → (a : Answer) → a ≡ answerOf k → Changed cs used n o (record { answer = a; used = used; len = n }) cs
-changed-not cs used n o k e a q =
-    record { room = refl; left = subst (λ (q : Outcome Net). Left cs used n q (record { answer = a; used = used; len = n }) cs) (sym e) (q, refl, refl, refl) }
+pub changed-not
+    : {cs : List (List ℕ)} {used n k : ℕ} {o : Outcome Net} {a : Answer} → o ≡ refused k → a ≡ answerOf k
+    → Changed cs used n o (record { answer = a; used = used; len = n }) cs
+changed-not {cs} {used} {n} {a = a} e q = record {
+  room = refl;
+  left = subst (λ (p : Outcome Net). Left cs used n p (record { answer = a; used = used; len = n }) cs) (sym e) (q, refl, refl, refl);
+}
 
 full-is : NetworkFull ≡ answerOf 8
 unfolding answerOf
 full-is = refl
 
-pub holds : (cs : List (List ℕ)) (used n : ℕ) (l : List Entry) → used ≤ length cs → take used cs ≡ map cellOf l → All Narrow l → n ≡ len l → Holds cs used n l
-holds cs used n l h e w s = record { fit = h; cells = e; entries = ap (map entryOf) e ∙ back-all l w; sum = s }
+holds
+    : {cs : List (List ℕ)} {used n : ℕ} {l : List Entry} → used ≤ length cs → take used cs ≡ map cellOf l → All Narrow l → n ≡ len l
+    → Holds cs used n l
+holds {l = l} h e w s = record { fit = h; cells = e; entries = ap (map entryOf) e ∙ back-all l w; sum = s }
 
 pub used-is : (cs : List (List ℕ)) (used n : ℕ) → NetLaid cs used n → length (entryList cs used) ≡ used
 used-is cs used n laid = length-map (take used cs) entryOf ∙ length-take-le used cs (laid .fit)
@@ -153,134 +156,137 @@ module _ {cs : List (List ℕ)} {used n : ℕ} (laid : NetLaid cs used n) where
   abbrev l : List Entry
   l = entryList cs used
 
-  sized : length l ≡ used
+  pub sized : length l ≡ used
   sized = used-is cs used n laid
 
+  narrow-here : All Narrow l
+  narrow-here = narrow-all (take used cs)
+
   pub at-cell : (i : ℕ) → i < used → getD cs i [] ≡ cellOf (getD l i zeroEntry)
-  at-cell i h = let v = sized in sym (getD-take used cs i [] h) ∙ ap (λ (x : List (List ℕ)). getD x i []) (laid .cells) ∙ map-get cellOf i l zeroEntry [] (omega arith)
+  at-cell i h =
+      let v = sized in
+      sym (getD-take used cs i [] h) ∙ ap (λ (x : List (List ℕ)). getD x i []) (laid .cells) ∙ map-get cellOf i l zeroEntry [] (omega arith)
 
   pub narrow-at : (i : ℕ) → i < used → Narrow (getD l i zeroEntry)
-  narrow-at i h = let v = sized in get-all Narrow i l zeroEntry (omega arith) (narrow-all (take used cs))
+  narrow-at i h = let v = sized in all-at Narrow l zeroEntry narrow-here i (omega arith)
 
-  pub at-count : (i : ℕ) → i < used → getD (getD cs i []) 3 0 ≡ getD l i zeroEntry .count
+  -- the count of a cell
+  abbrev copies : ℕ → ℕ
+  copies i = getD (getD cs i []) 3 0
+
+  at-count : (i : ℕ) → i < used → copies i ≡ getD l i zeroEntry .count
   at-count i h = ap (λ (x : List ℕ). getD x 3 0) (at-cell i h) ∙ cell-count (getD l i zeroEntry)
 
   pub len-small : n ≤ mostCopies * mostRoom
   len-small = omega (arith, laid .sum, len-most l (laid .counts), sized, laid .fit, laid .room)
 
-  pub len-holds : (i : ℕ) → i < used → getD (getD cs i []) 3 0 ≤ n
+  pub len-holds : (i : ℕ) → i < used → copies i ≤ n
   len-holds i h = let v = sized in let w = at-count i h in omega (arith, laid .sum, len-some i l (omega arith))
 
   pub as-it-was : Holds cs used n l
-  as-it-was = holds cs used n l (laid .fit) (laid .cells) (narrow-all (take used cs)) (laid .sum)
+  as-it-was = holds (laid .fit) (laid .cells) narrow-here (laid .sum)
 
-  pub unchanged : (kind : Kind) (last : LastMessage) → Changed cs used n (fitting (roomOf cs) kind last l) (record { answer = Done; used = used; len = n }) cs
-  unchanged kind last = let v = sized in
-      changed-done cs used n _ (netWith kind last l) (fitting-done (roomOf cs) kind last l (omega (arith, laid .fit)) (laid .counts)) cs refl used n as-it-was
+  pub unchanged : Enters (λ m. m) cs used n (record { answer = Done; used = used; len = n }) cs
+  unchanged kind last =
+      let v = sized in changed-done (fitting-done (roomOf cs) kind last l (omega (arith, laid .fit)) (laid .counts)) refl as-it-was
 
   pub lead-fits : (p : List ℕ → Bool) (at : ℕ) → at ≡ lead p (take used cs) → at ≤ used
   lead-fits p at e = omega (arith, lead-le p (take used cs), length-take-le used cs (laid .fit))
 
   -- ---- a new cell
-  module _ (at : ℕ) (k : List ℕ) (h : at ≤ used) (alone : Alone k) (kind : Kind) (last : LastMessage) where
-    abbrev grown : List Entry
-    grown = ins at (single (envelopeIn k)) l
+  module _ {k : List ℕ} (alone : Alone k) (at : ℕ) (h : at ≤ used) where
+    abbrev new : Entry
+    new = single (envelopeIn k)
 
-    pub insert-full : length cs ≤ used → Changed cs used n (fitting (roomOf cs) kind last grown) (record { answer = NetworkFull; used = used; len = n }) cs
-    insert-full g = let v = sized in
-        changed-not cs used n _ 8 (fitting-long (roomOf cs) kind last grown (omega (arith, length-ins at (single (envelopeIn k)) l (omega arith)))) NetworkFull full-is
+    pub insert-full : length cs ≤ used → Enters (ins at new) cs used n (record { answer = NetworkFull; used = used; len = n }) cs
+    insert-full g kind last =
+        let v = sized in changed-not (fitting-long (roomOf cs) kind last (ins at new l) (omega (arith, length-ins at new l (omega arith)))) full-is
 
-    pub insert-done : used < length cs → (cs' : List (List ℕ)) → (take (used + 1) cs' ≡ ins at k (take used cs)) × (length cs' ≡ length cs)
-        → Changed cs used n (fitting (roomOf cs) kind last grown) (record { answer = Done; used = used + 1; len = n + 1 }) cs'
+    pub insert-done
+        : used < length cs → (cs' : List (List ℕ)) → Moved (used + 1) (ins at k (take used cs)) cs cs'
+        → Enters (ins at new) cs used n (record { answer = Done; used = used + 1; len = n + 1 }) cs'
     unfolding single
-    insert-done g cs' p =
+    insert-done g cs' p kind last =
         let v = sized in
-        let w = length-ins at (single (envelopeIn k)) l (omega arith) in
-        let s : n + 1 ≡ len grown = omega (arith, laid .sum, len-ins at (single (envelopeIn k)) l (omega arith)) in
-        let q : take (used + 1) cs' ≡ map cellOf grown = p .0 ∙ ap₂ (λ (x : List ℕ) (m : List (List ℕ)). ins at x m) alone (laid .cells) ∙ map-ins cellOf at (single (envelopeIn k)) l in
-        changed-done cs used n _ (netWith kind last grown)
-        (fitting-done (roomOf cs) kind last grown (omega arith) (all-ins (λ x. leb (x .count) mostCopies) at (single (envelopeIn k)) l (laid .counts) ∙ le-leb 1 mostCopies (omega arith)))
-        cs' (p .1) (used + 1) (n + 1)
-        (holds cs' (used + 1) (n + 1) grown (omega (arith, p .1)) q (ins-all Narrow at (single (envelopeIn k)) l (narrow k) (narrow-all (take used cs))) s)
+        let w = length-ins at new l (omega arith) in
+        let s : n + 1 ≡ len (ins at new l) = omega (arith, laid .sum, len-ins at new l (omega arith)) in
+        let q : take (used + 1) cs' ≡ map cellOf (ins at new l) =
+        p .0 ∙ ap₂ (λ (x : List ℕ) (m : List (List ℕ)). ins at x m) alone (laid .cells) ∙ map-ins cellOf at new l in
+        let f = all-ins (λ x. leb (x .count) mostCopies) at new l (laid .counts) ∙ le-leb 1 mostCopies (omega arith) in
+        changed-done (fitting-done (roomOf cs) kind last (ins at new l) (omega arith) f) (p .1)
+        (holds (omega (arith, p .1)) q (ins-all Narrow at new l (narrow k) narrow-here) s)
 
   -- ---- another count at a place
-  module _ (at : ℕ) (h : at < used) (f : Entry → ℕ) where
+  module _ (at : ℕ) (h : at < used) where
     abbrev x : Entry
     x = getD l at zeroEntry
 
-    abbrev y : Entry
-    y = record { envelope = x .envelope; count = f x }
+    module _ (f : Entry → ℕ) where
+      abbrev y : Entry
+      y = record { envelope = x .envelope; count = f x }
 
-    abbrev cs' : List (List ℕ)
-    cs' = set cs at (set (getD cs at []) 3 (f x))
+      recounted : (v : ℕ) → v + x .count ≡ n + f x → Holds (set cs at (set (getD cs at []) 3 (f x))) used v (set l at y)
+      recounted v e =
+          let w = sized in
+          let c = set (getD cs at []) 3 (f x) in
+          let q : take used (set cs at c) ≡ map cellOf (set l at y) =
+          take-set-lt used cs at c h
+          ∙ ap₂ (λ (m : List (List ℕ)) (z : List ℕ). set m at z) (laid .cells)
+          (ap (λ (z : List ℕ). set z 3 (f x)) (at-cell at h) ∙ cell-counted x (f x))
+          ∙ map-set cellOf at y l in
+          let s : v ≡ len (set l at y) = omega (arith, laid .sum, len-set at y l (omega arith)) in
+          holds (omega (arith, length-set cs at c, laid .fit)) q (set-all Narrow at y l (narrow-at at h) narrow-here) s
 
-    recounted : (v : ℕ) → v + x .count ≡ n + f x → Holds cs' used v (set l at y)
-    recounted v e =
-        let w = sized in
-        let q : take used cs' ≡ map cellOf (set l at y) =
-        take-set-lt used cs at (set (getD cs at []) 3 (f x)) h
-        ∙ ap₂ (λ (m : List (List ℕ)) (z : List ℕ). set m at z) (laid .cells) (ap (λ (z : List ℕ). set z 3 (f x)) (at-cell at h) ∙ cell-counted x (f x))
-        ∙ map-set cellOf at y l in
-        let s : v ≡ len (set l at y) = omega (arith, laid .sum, len-set at y l (omega arith)) in
-        holds cs' used v (set l at y) (omega (arith, length-set cs at (set (getD cs at []) 3 (f x)), laid .fit)) q (set-all Narrow at y l (get-all Narrow at l zeroEntry (omega arith) (narrow-all (take used cs))) (narrow-all (take used cs))) s
+    -- ---- one copy more
+    counted-fits : all (λ z. leb (z .count) mostCopies) (countedAt at l) ≡ leb (suc (x .count)) mostCopies
+    unfolding countedAt again
+    counted-fits =
+        let v = sized in all-set (λ z. leb (z .count) mostCopies) at (again UnorderedNonDuplicating x) l (omega arith) (laid .counts)
 
-  -- ---- one copy more
-  module _ (at : ℕ) (h : at < used) (last : LastMessage) where
-    abbrev more : List Entry
-    more = set l at (again UnorderedNonDuplicating (getD l at zeroEntry))
+    counted-few : length (countedAt at l) ≤ length cs
+    unfolding countedAt again
+    counted-few = let v = sized in omega (arith, length-set l at (again UnorderedNonDuplicating x), laid .fit)
 
-    pub count-full : mostCopies ≤ getD (getD cs at []) 3 0 → Changed cs used n (fitting (roomOf cs) UnorderedNonDuplicating last more) (record { answer = NetworkFull; used = used; len = n }) cs
-    unfolding again
-    count-full g =
-        let v = sized in
+    pub count-full : mostCopies ≤ copies at → Enters (countedAt at) cs used n (record { answer = NetworkFull; used = used; len = n }) cs
+    count-full g kind last =
         let w = at-count at h in
-        let y = again UnorderedNonDuplicating (getD l at zeroEntry) in
-        changed-not cs used n _ 8
-        (fitting-many (roomOf cs) UnorderedNonDuplicating last more (omega (arith, length-set l at y, laid .fit))
-        (all-set (λ x. leb (x .count) mostCopies) at y l (omega arith) (laid .counts) ∙ lt-leb (suc (getD l at zeroEntry .count)) mostCopies (omega arith)))
-        NetworkFull full-is
+        let m = counted-fits ∙ lt-leb (suc (x .count)) mostCopies (omega arith) in
+        changed-not (fitting-many (roomOf cs) kind last (countedAt at l) counted-few m) full-is
 
-    pub count-done : getD (getD cs at []) 3 0 < mostCopies
-        → Changed cs used n (fitting (roomOf cs) UnorderedNonDuplicating last more) (record { answer = Done; used = used; len = n + 1 }) (set cs at (set (getD cs at []) 3 (getD (getD cs at []) 3 0 + 1)))
-    unfolding again
-    count-done g =
-        let v = sized in
+    counted : Holds (set cs at (set (getD cs at []) 3 (suc (x .count)))) used (n + 1) (countedAt at l)
+    unfolding countedAt again
+    counted = recounted (λ e. suc (e .count)) (n + 1) (omega arith)
+
+    pub count-done
+        : copies at < mostCopies
+        → Enters (countedAt at) cs used n (record { answer = Done; used = used; len = n + 1 }) (set cs at (set (getD cs at []) 3 (copies at + 1)))
+    count-done g kind last =
         let w = at-count at h in
-        let y = again UnorderedNonDuplicating (getD l at zeroEntry) in
-        let z : getD (getD cs at []) 3 0 + 1 ≡ suc (getD l at zeroEntry .count) = omega arith in
-        rw z (changed-done cs used n _ (netWith UnorderedNonDuplicating last more)
-        (fitting-done (roomOf cs) UnorderedNonDuplicating last more (omega (arith, length-set l at y, laid .fit))
-        (all-set (λ x. leb (x .count) mostCopies) at y l (omega arith) (laid .counts) ∙ le-leb (suc (getD l at zeroEntry .count)) mostCopies (omega arith)))
-        _ (length-set cs at _) used (n + 1) (recounted at h (λ e. suc (e .count)) (n + 1) (omega arith)))
+        let z : copies at + 1 ≡ suc (x .count) = omega arith in
+        let m = counted-fits ∙ le-leb (suc (x .count)) mostCopies (omega arith) in
+        rw z (changed-done (fitting-done (roomOf cs) kind last (countedAt at l) counted-few m) (length-set cs at _) counted)
 
-  -- ---- one copy less
-  module _ (at : ℕ) (h : at < used) (kind : Kind) (last : LastMessage) where
-    abbrev less : List Entry
-    less = takenAt at l
-
-    pub take-last : getD (getD cs at []) 3 0 ≤ 1 → (cs' : List (List ℕ)) → (take (used - 1) cs' ≡ del at (take used cs)) × (length cs' ≡ length cs)
-        → Changed cs used n (done (netWith kind last less)) (record { answer = Done; used = used - 1; len = n - getD (getD cs at []) 3 0 }) cs'
+    -- ---- one copy less
+    pub take-last
+        : copies at ≤ 1 → (cs' : List (List ℕ)) → Moved (used - 1) (del at (take used cs)) cs cs'
+        → TakesOut at cs used n (record { answer = Done; used = used - 1; len = n - copies at }) cs'
     unfolding takenAt choose
-    take-last g cs' p =
+    take-last g cs' p kind last =
         let v = sized in
         let w = at-count at h in
-        let m = getD l at zeroEntry in
-        let k : m .count ≤ 1 = omega arith in
-        let s : n - getD (getD cs at []) 3 0 ≡ len (del at l) = omega (arith, laid .sum, len-del at l (omega arith)) in
+        let k : x .count ≤ 1 = omega arith in
+        let s : n - copies at ≡ len (del at l) = omega (arith, laid .sum, len-del at l (omega arith)) in
         let q : take (used - 1) cs' ≡ map cellOf (del at l) = p .0 ∙ ap (del at) (laid .cells) ∙ map-del cellOf at l in
-        let b : Holds cs' (used - 1) (n - getD (getD cs at []) 3 0) (del at l) =
-        holds cs' (used - 1) (n - getD (getD cs at []) 3 0) (del at l) (omega (arith, p .1, laid .fit)) q (del-all Narrow at l (narrow-all (take used cs))) s in
-        changed-done cs used n _ (netWith kind last less) refl cs' (p .1) (used - 1) (n - getD (getD cs at []) 3 0) (rw (le-leb (m .count) 1 k) b)
+        let b : Holds cs' (used - 1) (n - copies at) (del at l) = holds (omega (arith, p .1, laid .fit)) q (del-all Narrow at l narrow-here) s in
+        changed-done refl (p .1) (rw (le-leb (x .count) 1 k) b)
 
-    pub take-more : 1 < getD (getD cs at []) 3 0
-        → Changed cs used n (done (netWith kind last less)) (record { answer = Done; used = used; len = n - 1 }) (set cs at (set (getD cs at []) 3 (getD (getD cs at []) 3 0 - 1)))
+    pub take-more
+        : 1 < copies at → TakesOut at cs used n (record { answer = Done; used = used; len = n - 1 }) (set cs at (set (getD cs at []) 3 (copies at - 1)))
     unfolding takenAt choose lowered
-    take-more g =
+    take-more g kind last =
         let v = sized in
         let w = at-count at h in
-        let m = getD l at zeroEntry in
-        let k : 1 < m .count = omega arith in
-        let z : getD (getD cs at []) 3 0 - 1 ≡ m .count - 1 = omega arith in
+        let k : 1 < x .count = omega arith in
+        let z : copies at - 1 ≡ x .count - 1 = omega arith in
         let o = len-holds at h in
-        rw z (changed-done cs used n _ (netWith kind last less) refl _ (length-set cs at _) used (n - 1)
-        (rw (lt-leb (m .count) 1 k) (recounted at h (λ e. e .count - 1) (n - 1) (omega arith))))
+        rw z (changed-done refl (length-set cs at _) (rw (lt-leb (x .count) 1 k) (recounted (λ e. e .count - 1) (n - 1) (omega arith))))

@@ -4,9 +4,9 @@ use Prim.Native.Nat.{ℕ, _≤_}
 use mathlib.Core.Path.{_≡_}
 use mathlib.Core.Bool.{true}
 use mathlib.Core.List.{List, map}
-use lib.ListN.{length, take}
+use lib.ListN.{length, take, getD, set}
 use lib.Dec.{leb}
-use Rattle.lists.specs.Lists.{all, chain}
+use Rattle.lists.specs.Lists.{choose, all, chain, del}
 use Rattle.types.specs.declared.Entry.{Entry}
 use Rattle.types.specs.declared.Kind.{Kind}
 use Rattle.types.specs.declared.LastMessage.{LastMessage}
@@ -14,18 +14,21 @@ use Rattle.types.specs.Capacities.{mostCopies}
 use Rattle.answers.specs.declared.Answer.the-variants.{Done}
 use Rattle.answers.specs.Answers.{answerOf}
 use Rattle.rules.specs.Outcome.{Outcome, done, refused, Room}
-use Rattle.rules.specs.Network.{Net, len}
+use Rattle.rules.specs.Network.{Net, lowered, len}
 use Rattle.rules.specs.WellFormed.{inOrder}
-use Rattle.net_cells.specs.Cells.{cellOf, entryOf}
+use Rattle.net_cells.specs.Cells.{zeroEntry, cellOf, entryOf}
 use Rattle.net_rows.specs.declared.Sent.{Sent}
 
 -- The used entries.
 abbrev pub entryList : List (List ℕ) → ℕ → List Entry
 entryList cs used = map entryOf (take used cs)
 
+abbrev pub netWith : Kind → LastMessage → List Entry → Net
+netWith k last l = record { kind = k; entries = l; last = last }
+
 -- The last message stands apart: no change of the cells reads it.
 abbrev pub netOf : Kind → LastMessage → List (List ℕ) → ℕ → Net
-netOf k last cs used = record { kind = k; entries = entryList cs used; last = last }
+netOf k last cs used = netWith k last (entryList cs used)
 
 -- The room is the slice's.
 abbrev pub roomOf : List (List ℕ) → Room
@@ -63,3 +66,14 @@ Left cs used n (refused k) r cs' = (r .answer ≡ answerOf k) × (r .used ≡ us
 pub record Changed (cs : List (List ℕ)) (used n : ℕ) (o : Outcome Net) (r : Sent) (cs' : List (List ℕ)) : Type 0 where
   pub room : length cs' ≡ length cs
   pub left : Left cs used n o r cs'
+
+-- A change in place, whatever the last message is: what f makes of the view.
+abbrev pub Makes : (Net → Outcome Net) → Kind → List (List ℕ) → ℕ → ℕ → Sent → List (List ℕ) → Type 0
+Makes f k cs used n r cs' = (last : LastMessage) → Changed cs used n (f (netOf k last cs used)) r cs'
+
+-- One copy less at a place, and the same in place, whatever kind and last message are.
+unfoldable pub takenAt : ℕ → List Entry → List Entry
+takenAt at l = choose (leb (getD l at zeroEntry .count) 1) (del at l) (set l at (lowered (getD l at zeroEntry)))
+
+abbrev pub TakesOut : ℕ → List (List ℕ) → ℕ → ℕ → Sent → List (List ℕ) → Type 0
+TakesOut at cs used n r cs' = (kind : Kind) (last : LastMessage) → Changed cs used n (done (netWith kind last (takenAt at (entryList cs used)))) r cs'

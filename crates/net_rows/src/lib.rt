@@ -1,30 +1,26 @@
 // The network in place: send, deliver and drop of the first used cells of a lent slice, for all three kinds. The used
 // count and the count of messages go in and come back in a small answer. On a refusal the cells are as they were.
+use answers::Answer;
 use net_cells::cell_of;
 use net_slots::Look;
 use net_slots::first_equal;
 use net_slots::halve;
 use net_slots::insert_at;
 use net_slots::remove_at;
-use answers::Answer;
 use types::Envelope;
 use types::Kind;
 use types::MOST_COPIES;
 ghost use mathlib.Core.Path.{_≡_};
 ghost use mathlib.Core.Bool.{true, not};
 ghost use Prim.Native.Nat.{_≤_, _<_};
-ghost use lib.ListN.{getD, set};
 ghost use Rattle.lists.specs.Lists.{chain, lead, ins};
 ghost use Rattle.types.specs.declared.Kind.{Kind};
 ghost use Rattle.types.specs.declared.Kind.the-variants.{Ordered, UnorderedDuplicating, UnorderedNonDuplicating};
-ghost use Rattle.types.specs.declared.LastMessage.{LastMessage};
 ghost use Rattle.types.specs.Order.{same};
-ghost use Rattle.rules.specs.Outcome.{done};
-ghost use Rattle.rules.specs.Network.{single, again, send, onDeliver, onDrop};
-ghost use Rattle.net_cells.specs.Cells.{zeroEntry};
+ghost use Rattle.rules.specs.Network.{single, send, onDeliver, onDrop};
 ghost use Rattle.net_rows.specs.Search.{stands, lookUp};
-ghost use Rattle.net_rows.specs.Views.{entryList, netOf, roomOf, NetLaid, NetReady, Changed};
-ghost use Rattle.net_rows.specs.Parts.{envelopeIn, Alone, fitting, netWith, takenAt, absentOf};
+ghost use Rattle.net_rows.specs.Views.{entryList, roomOf, NetLaid, NetReady, Makes, TakesOut};
+ghost use Rattle.net_rows.specs.Parts.{envelopeIn, Alone, countedAt, Enters, absentOf};
 
 // Where the answer is not Done, the counts are those that came.
 pub struct Sent {
@@ -42,7 +38,7 @@ enum Found {
 // A new cell at a place, if there is room.
 fn insert_cell(c: &mut [[u64; 4]], used: usize, len: u64, at: usize, k: [u64; 4]) -> Sent
     requires { ⌜ NetLaid (now c) used len × (at ≤ used) × Alone k ⌝ }
-    ensures { λ r. ⌜ ((kind : Kind) (last : LastMessage) → Changed (now (c .entry)) used len (fitting (roomOf (now (c .entry))) kind last (ins at (single (envelopeIn k)) (entryList (now (c .entry)) used))) r (now (c .exit))) ⌝ }
+    ensures { λ r. ⌜ Enters (ins at (single (envelopeIn k))) (now (c .entry)) used len r (now (c .exit)) ⌝ }
 {
     if c.len() <= used {
         return Sent {
@@ -52,8 +48,9 @@ fn insert_cell(c: &mut [[u64; 4]], used: usize, len: u64, at: usize, k: [u64; 4]
         };
     }
     insert_at(c, used, at, k);
+    let answer = Answer::Done;
     Sent {
-        answer: Answer::Done,
+        answer: answer,
         used: used + 1,
         len: len + 1,
     }
@@ -62,7 +59,7 @@ fn insert_cell(c: &mut [[u64; 4]], used: usize, len: u64, at: usize, k: [u64; 4]
 // One copy more of the cell at a place, if it can be counted.
 fn count_up(c: &mut [[u64; 4]], used: usize, len: u64, at: usize) -> Sent
     requires { ⌜ NetLaid (now c) used len × (at < used) ⌝ }
-    ensures { λ r. ⌜ ((last : LastMessage) → Changed (now (c .entry)) used len (fitting (roomOf (now (c .entry))) UnorderedNonDuplicating last (set (entryList (now (c .entry)) used) at (again UnorderedNonDuplicating (getD (entryList (now (c .entry)) used) at zeroEntry)))) r (now (c .exit))) ⌝ }
+    ensures { λ r. ⌜ Enters (countedAt at) (now (c .entry)) used len r (now (c .exit)) ⌝ }
 {
     let most = MOST_COPIES as u64;
     let n = c[at][3];
@@ -84,7 +81,7 @@ fn count_up(c: &mut [[u64; 4]], used: usize, len: u64, at: usize) -> Sent
 // One copy less of the cell at a place; the last one takes the cell along.
 pub fn take_out(c: &mut [[u64; 4]], used: usize, len: u64, at: usize) -> Sent
     requires { ⌜ NetLaid (now c) used len × (at < used) ⌝ }
-    ensures { λ r. ⌜ ((kind : Kind) (last : LastMessage) → Changed (now (c .entry)) used len (done (netWith kind last (takenAt at (entryList (now (c .entry)) used)))) r (now (c .exit))) ⌝ }
+    ensures { λ r. ⌜ TakesOut at (now (c .entry)) used len r (now (c .exit)) ⌝ }
 {
     let n = c[at][3];
     if n <= 1 {
@@ -121,7 +118,7 @@ fn look_up(c: &[[u64; 4]], used: usize, len: u64, k: [u64; 4]) -> Found
 // After its flow.
 fn send_ordered(c: &mut [[u64; 4]], used: usize, len: u64, k: [u64; 4]) -> Sent
     requires { ⌜ NetReady Ordered (now c) used len × Alone k ⌝ }
-    ensures { λ r. ⌜ ((last : LastMessage) → Changed (now (c .entry)) used len (send (roomOf (now (c .entry))) (envelopeIn k) (netOf Ordered last (now (c .entry)) used)) r (now (c .exit))) ⌝ }
+    ensures { λ r. ⌜ Makes (send (roomOf (now (c .entry))) (envelopeIn k)) Ordered (now (c .entry)) used len r (now (c .exit)) ⌝ }
 {
     let at = halve(Look::UpToFlow, c, used, k);
     insert_cell(c, used, len, at, k)
@@ -130,7 +127,7 @@ fn send_ordered(c: &mut [[u64; 4]], used: usize, len: u64, k: [u64; 4]) -> Sent
 // At its place, once.
 fn send_once(c: &mut [[u64; 4]], used: usize, len: u64, k: [u64; 4]) -> Sent
     requires { ⌜ NetReady UnorderedDuplicating (now c) used len × Alone k ⌝ }
-    ensures { λ r. ⌜ ((last : LastMessage) → Changed (now (c .entry)) used len (send (roomOf (now (c .entry))) (envelopeIn k) (netOf UnorderedDuplicating last (now (c .entry)) used)) r (now (c .exit))) ⌝ }
+    ensures { λ r. ⌜ Makes (send (roomOf (now (c .entry))) (envelopeIn k)) UnorderedDuplicating (now (c .entry)) used len r (now (c .exit)) ⌝ }
 {
     let f = look_up(c, used, len, k);
     match f {
@@ -146,7 +143,7 @@ fn send_once(c: &mut [[u64; 4]], used: usize, len: u64, k: [u64; 4]) -> Sent
 // At its place, counted.
 fn send_counted(c: &mut [[u64; 4]], used: usize, len: u64, k: [u64; 4]) -> Sent
     requires { ⌜ NetReady UnorderedNonDuplicating (now c) used len × Alone k ⌝ }
-    ensures { λ r. ⌜ ((last : LastMessage) → Changed (now (c .entry)) used len (send (roomOf (now (c .entry))) (envelopeIn k) (netOf UnorderedNonDuplicating last (now (c .entry)) used)) r (now (c .exit))) ⌝ }
+    ensures { λ r. ⌜ Makes (send (roomOf (now (c .entry))) (envelopeIn k)) UnorderedNonDuplicating (now (c .entry)) used len r (now (c .exit)) ⌝ }
 {
     let f = look_up(c, used, len, k);
     match f {
@@ -157,7 +154,7 @@ fn send_counted(c: &mut [[u64; 4]], used: usize, len: u64, k: [u64; 4]) -> Sent
 
 pub fn send(c: &mut [[u64; 4]], kind: Kind, used: usize, len: u64, e: Envelope) -> Sent
     requires { ⌜ NetReady kind (now c) used len ⌝ }
-    ensures { λ r. ⌜ ((last : LastMessage) → Changed (now (c .entry)) used len (send (roomOf (now (c .entry))) e (netOf kind last (now (c .entry)) used)) r (now (c .exit))) ⌝ }
+    ensures { λ r. ⌜ Makes (send (roomOf (now (c .entry))) e) kind (now (c .entry)) used len r (now (c .exit)) ⌝ }
 {
     let k = cell_of(e);
     match kind {
@@ -211,7 +208,7 @@ fn when_absent(kind: Kind) -> Answer
 
 pub fn on_drop(c: &mut [[u64; 4]], kind: Kind, used: usize, len: u64, e: Envelope) -> Sent
     requires { ⌜ NetReady kind (now c) used len ⌝ }
-    ensures { λ r. ⌜ ((last : LastMessage) → Changed (now (c .entry)) used len (onDrop e (netOf kind last (now (c .entry)) used)) r (now (c .exit))) ⌝ }
+    ensures { λ r. ⌜ Makes (onDrop e) kind (now (c .entry)) used len r (now (c .exit)) ⌝ }
 {
     let at = equal_place(c, kind, used, len, e);
     if at < used {
@@ -227,7 +224,7 @@ pub fn on_drop(c: &mut [[u64; 4]], kind: Kind, used: usize, len: u64, e: Envelop
 // The duplicating kind keeps what is delivered; its last message is the caller's to note.
 pub fn on_deliver(c: &mut [[u64; 4]], kind: Kind, used: usize, len: u64, e: Envelope) -> Sent
     requires { ⌜ NetReady kind (now c) used len ⌝ }
-    ensures { λ r. ⌜ ((last : LastMessage) → Changed (now (c .entry)) used len (onDeliver e (netOf kind last (now (c .entry)) used)) r (now (c .exit))) ⌝ }
+    ensures { λ r. ⌜ Makes (onDeliver e) kind (now (c .entry)) used len r (now (c .exit)) ⌝ }
 {
     match kind {
         Kind::Ordered => on_drop(c, kind, used, len, e),

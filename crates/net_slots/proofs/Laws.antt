@@ -47,7 +47,9 @@ module _ {A : Type 0} where
   take-ins (suc used) (suc at) a [] h k = absurd (not-suc-le-zero k)
   take-ins (suc used) (suc at) a (x ∷ l) h k = ap (λ (r : List A). x ∷ r) (take-ins used at a l (le-of-suc-le-suc h) (le-of-suc-le-suc k))
 
-  pub inserted : (used at : ℕ) (a : A) (l₀ l : List A) → at ≤ used → used < length l₀ → length l ≡ length l₀ → del at l ≡ del used l₀ → take (used + 1) (set l at a) ≡ ins at a (take used l₀)
+  pub inserted
+      : (used at : ℕ) (a : A) (l₀ l : List A) → at ≤ used → used < length l₀ → length l ≡ length l₀ → del at l ≡ del used l₀
+      → take (used + 1) (set l at a) ≡ ins at a (take used l₀)
   inserted used at a l₀ l h k e q =
       ap (λ (n : ℕ). take n (set l at a)) (add-one used)
       ∙ ap (take (suc used)) (del-end at l a (omega arith) ∙ ap (ins at a) q)
@@ -60,17 +62,22 @@ module _ {A : Type 0} where
   take-before zero (suc at) (x ∷ l) h k = absurd (not-suc-le-zero h)
   take-before (suc n) (suc at) (x ∷ l) h k = ap (λ (r : List A). x ∷ r) (take-before n at l (le-of-suc-le-suc h) (le-of-suc-le-suc k))
 
-  pub removed : (used at i : ℕ) (l₀ l : List A) → at ≤ i → i + 1 ≡ used → used ≤ length l₀ → length l ≡ length l₀ → del i l ≡ del at l₀ → take (used - 1) l ≡ del at (take used l₀)
+  pub removed
+      : (used at i : ℕ) (l₀ l : List A) → at ≤ i → i + 1 ≡ used → used ≤ length l₀ → length l ≡ length l₀ → del i l ≡ del at l₀
+      → take (used - 1) l ≡ del at (take used l₀)
   removed used at i l₀ l h e k w q =
       let f : used - 1 ≡ i = omega arith in
       let g : suc i ≡ used = omega arith in
-      ap (λ (n : ℕ). take n l) f ∙ sym (take-del i l (omega arith)) ∙ ap (take i) q ∙ take-before i at l₀ h (omega arith) ∙ ap (λ (n : ℕ). del at (take n l₀)) g
+      ap (λ (n : ℕ). take n l) f ∙ sym (take-del i l (omega arith)) ∙ ap (take i) q ∙ take-before i at l₀ h (omega arith)
+      ∙ ap (λ (n : ℕ). del at (take n l₀)) g
 
 -- ---- a search by halves
 abbrev pub Passed : (List ℕ → Bool) → ℕ → List (List ℕ) → Type 0
 Passed p n c = (k : ℕ) → k < n → p (getD c k []) ≡ true
 
-pub passed-to : (p : List ℕ → Bool) (used : ℕ) (c : List (List ℕ)) → Once p used c → (mid : ℕ) → mid < used → p (getD c mid []) ≡ true → Passed p (mid + 1) c
+pub passed-to
+    : (p : List ℕ → Bool) (used : ℕ) (c : List (List ℕ)) → Once p used c → (mid : ℕ) → mid < used → p (getD c mid []) ≡ true
+    → Passed p (mid + 1) c
 passed-to p used c o mid h e k l = go (decLt k mid)
   where
     go : Dec (k < mid) → p (getD c k []) ≡ true
@@ -120,10 +127,14 @@ module _ (c : List (List ℕ)) (used : ℕ) (k : List ℕ) (fit : used ≤ lengt
       )
 
   -- nor after it
-  pub past-flow : chain flows (take used c) ≡ true → (i : ℕ) → i < used → Passed (differs k) i c → flowOf k < flowOf (getD c i []) → Passed (differs k) used c
+  pub past-flow
+      : chain flows (take used c) ≡ true → (i : ℕ) → i < used → Passed (differs k) i c → flowOf k < flowOf (getD c i [])
+      → Passed (differs k) used c
   past-flow s i h p l j b = go (decLt j i) (decLt i j)
     where
       go : Dec (j < i) → Dec (i < j) → differs k (getD c j []) ≡ true
       go (yes x) y = p j x
-      go (no x) (yes y) = other-flow (getD c j []) k (λ q. omega (arith, leb-true (flowOf (getD c i [])) (flowOf (getD c j [])) (ordered flows flows-trans c used fit s i j y b)))
+      go (no x) (yes y) =
+          other-flow (getD c j []) k
+          (λ q. omega (arith, leb-true (flowOf (getD c i [])) (flowOf (getD c j [])) (ordered flows flows-trans c used fit s i j y b)))
       go (no x) (no y) = let z : j ≡ i = omega arith in rw z (other-flow (getD c i []) k (λ q. omega arith))

@@ -11,7 +11,7 @@ ghost use lib.Dec.{leb};
 ghost use Rattle.lists.specs.Lists.{chain, lead, ins, del};
 ghost use Rattle.types.specs.Order.{isEqual};
 ghost use Rattle.net_cells.specs.Cells.{cmpCell, flowOf};
-ghost use Rattle.net_slots.specs.Search.{passesOf, Once};
+ghost use Rattle.net_slots.specs.Search.{passesOf, Once, Moved};
 
 // What a search passes over: cells that stand before k, of a flow up to that of k, or of a flow before it.
 pub enum Look {
@@ -71,7 +71,7 @@ pub fn first_equal(c: &[[u64; 4]], used: usize, k: [u64; 4]) -> usize
 // k at a place; what stood there and after it, up to the count, goes one place on.
 pub fn insert_at(c: &mut [[u64; 4]], used: usize, at: usize, k: [u64; 4])
     requires { ⌜ (at ≤ used) × (used < length (now c)) ⌝ }
-    ensures { λ _. ⌜ (take (used + 1) (now (c .exit)) ≡ ins at k (take used (now (c .entry)))) × (length (now (c .exit)) ≡ length (now (c .entry))) ⌝ }
+    ensures { λ _. ⌜ Moved (used + 1) (ins at k (take used (now (c .entry)))) (now (c .entry)) (now (c .exit)) ⌝ }
 {
     let mut i = used;
     while at < i {
@@ -84,7 +84,7 @@ pub fn insert_at(c: &mut [[u64; 4]], used: usize, at: usize, k: [u64; 4])
 // What stands at a place is gone; what stood after it goes one place down.
 pub fn remove_at(c: &mut [[u64; 4]], used: usize, at: usize)
     requires { ⌜ (at < used) × (used ≤ length (now c)) ⌝ }
-    ensures { λ _. ⌜ (take (used - 1) (now (c .exit)) ≡ del at (take used (now (c .entry)))) × (length (now (c .exit)) ≡ length (now (c .entry))) ⌝ }
+    ensures { λ _. ⌜ Moved (used - 1) (del at (take used (now (c .entry)))) (now (c .entry)) (now (c .exit)) ⌝ }
 {
     let mut i = at;
     while i + 1 < used {

@@ -3,7 +3,7 @@
 use Prim.Native.Nat.{ℕ, _+_, _-_, _*_, _/_, _%_, _^_, _≤_, _<_}
 use native.Mathlib.Nat.{add-mul, mul-assoc, mod-lt, mul-mod-left, add-zero, add-comm, zero-div, lt-of-lt-of-le}
 use native.Mathlib.Omega.{arith}
-use mathlib.Core.Path.{_≡_, sym, ap, ap₂, subst, _∙_}
+use mathlib.Core.Path.{_≡_, refl, sym, ap, ap₂, subst, _∙_}
 use mathlib.Core.List.{List}
 use lib.ListN.{length, getD}
 use lib.Arith.{digits-lt}
@@ -34,9 +34,16 @@ raised xs at next j k a b n p q =
 pub raised-fits : (xs : List ℕ) (at j k : ℕ) → j + k ≤ 64 → fieldAt xs at j * 2 ^ k < 2 ^ 64
 raised-fits xs at j k h = lt-of-lt-of-le (shl-lt j k (field-lt xs at j)) (pow-mono h)
 
-pub byte-raised
-    : (xs : List ℕ) (at i k : ℕ) → at ≡ 8 * i → getD xs i 0 < 256 → k ≤ 56 → getD xs i 0 * 2 ^ k % 2 ^ 64 ≡ fieldAt xs at 8 * 2 ^ k
-byte-raised xs at i k e h g = shl-exact 8 k 64 h (omega arith) ∙ ap (λ (x : ℕ). x * 2 ^ k) (byte-is xs at i e h)
+pub pair-is
+    : (xs : List ℕ) (i k : ℕ) → getD xs i 0 < 256 → getD xs (i + 1) 0 < 256 → k ≤ 48
+    → getD xs i 0 * 2 ^ (k + 8) % 2 ^ 64 + getD xs (i + 1) 0 * 2 ^ k % 2 ^ 64 ≡ fieldAt xs (8 * i) 16 * 2 ^ k
+pair-is xs i k g h l =
+    raised xs (8 * i) (8 * i + 8) 8 k _ _ refl
+    (byte-raised (8 * i) i (k + 8) refl g (omega arith))
+    (byte-raised (8 * i + 8) (i + 1) k (omega arith) h (omega arith))
+  where
+    byte-raised : (at i k : ℕ) → at ≡ 8 * i → getD xs i 0 < 256 → k ≤ 56 → getD xs i 0 * 2 ^ k % 2 ^ 64 ≡ fieldAt xs at 8 * 2 ^ k
+    byte-raised at i k e h g = shl-exact 8 k 64 h (omega arith) ∙ ap (λ (x : ℕ). x * 2 ^ k) (byte-is xs at i e h)
 
 -- ---- the last bytes, of which those from byte i up to byte j were read
 module _ (xs : List ℕ) (i j n : ℕ) (g : i ≤ j) (e : n ≡ fieldAt xs (8 * i) (8 * (j - i))) where
@@ -77,7 +84,8 @@ window-is xs at k n w b h g e f =
     let p : 64 ≡ k + m = omega arith in
     let q : m + k ≡ 64 = omega arith in
     let r : n ≡ k + (n - k) = omega arith in
-    let x : w * 2 ^ k % 2 ^ 64 ≡ fieldAt xs (at + k) m * 2 ^ k = ap (λ (j : ℕ). w * 2 ^ k % 2 ^ j) (sym q) ∙ moved xs at k m (e ∙ ap (fieldAt xs at) p) in
+    let x : w * 2 ^ k % 2 ^ 64 ≡ fieldAt xs (at + k) m * 2 ^ k =
+    ap (λ (j : ℕ). w * 2 ^ k % 2 ^ j) (sym q) ∙ moved xs at k m (e ∙ ap (fieldAt xs at) p) in
     let y : b / 2 ^ (n - k) ≡ fieldAt xs (at + 64) k = front xs (at + 64) k (n - k) (f ∙ ap (fieldAt xs (at + 64)) r) in
     let z : at + 64 ≡ at + k + m = omega arith in
     ap₂ (λ (i j : ℕ). i + j) x (y ∙ ap (λ (i : ℕ). fieldAt xs i k) z) ∙ sym (field-add xs (at + k) m k) ∙ ap (fieldAt xs (at + k)) q

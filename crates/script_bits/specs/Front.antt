@@ -9,3 +9,7 @@ use Rattle.layout.specs.Bits.{fieldAt}
 pub record Front (xs : List ℕ) (w v : ℕ) : Type 0 where
   pub first : w ≡ fieldAt xs 0 64
   pub second : v ≡ fieldAt xs 64 64
+
+-- The field that is cut out of the words: that of any bytes whose front they are.
+abbrev pub Cuts : ℕ → ℕ → ℕ → ℕ → ℕ → Type 0
+Cuts w v at width r = (xs : List ℕ) → Front xs w v → r ≡ fieldAt xs at width

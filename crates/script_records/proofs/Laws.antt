@@ -378,7 +378,8 @@ module _ (xs : List ℕ) where
           ∙ follow-then xs (envelopeForm f) (λ x. filled (item (action.Drop x))) 3)
           ∙ drops (follow xs (envelopeForm f) 3)
 
-      pub envelope-kind : 1 ≤ k → k ≤ 2 → actionPart (follow xs (actionForm f) 0) ≡ withEnvelope (eqb k 1) (envelopePart (follow xs (envelopeForm f) 3))
+      pub envelope-kind : 1 ≤ k → k ≤ 2
+          → actionPart (follow xs (actionForm f) 0) ≡ withEnvelope (eqb k 1) (envelopePart (follow xs (envelopeForm f) 3))
       envelope-kind g h = go (ℕ-discrete k 1)
         where
           go : Dec (k ≡ 1) → actionPart (follow xs (actionForm f) 0) ≡ withEnvelope (eqb k 1) (envelopePart (follow xs (envelopeForm f) 3))

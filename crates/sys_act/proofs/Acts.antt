@@ -49,6 +49,10 @@ seat-is : (count : ℕ) (a : Action) → ltb (target a .0) count ≡ true → se
 unfolding seat choose
 seat-is count a h = rw h
 
+-- It is there.
+pub below : (count : ℕ) (a b : Action) → a ≡ b → ltb (target a .0) count ≡ true → target b .0 < count
+below count a b e h = ltb-true (target b .0) count (ap (λ (z : Action). ltb (target z .0) count) (sym e) ∙ h)
+
 module _ (count : ℕ) (rs : List Rule) (kind : Kind) (used n : ℕ) (x : Rows) where
   -- The one at its seat is the one that it names.
   pub stepped-at : (a b : Action) → a ≡ b → (here : Bool) → here ≡ ltb (target a .0) count → here ≡ true → (r : Sent) (x' : Rows)
@@ -57,6 +61,10 @@ module _ (count : ℕ) (rs : List Rule) (kind : Kind) (used n : ℕ) (x : Rows) 
       let q : ltb (target b .0) count ≡ true = ap (λ (z : Action). ltb (target z .0) count) (sym e) ∙ sym h ∙ t in
       subst (λ (z : Action). Stepped count z (seatOf count z) rs kind used n x r x') (sym e)
       (subst (λ (i : Id). Stepped count b i rs kind used n x r x') (sym (seat-is count b q)) s)
+
+  -- What is answered is this.
+  pub as-told : (a : Action) (i : Id) (r r' : Sent) (x' : Rows) → r ≡ r' → Stepped count a i rs kind used n x r' x' → Stepped count a i rs kind used n x r x'
+  as-told a i r r' x' e s = subst (λ (z : Sent). Stepped count a i rs kind used n x z x') (sym e) s
 
   -- ---- nobody there
   module _ (fine : Fine kind used n x) where
@@ -196,3 +204,8 @@ module _ (count : ℕ) (rs : List Rule) (kind : Kind) (used n : ℕ) (x : Rows) 
           go : Dec (e .src .0 < count) → Ended i count rs (o (Drop e) i) (lastThen kind (Drop e)) kind used n x r x'
           go (yes h) = by-there h (d .drops h) there refl
           go (no h) = drop-unknown (omega arith) (d .unknown (omega arith))
+
+    pub drops-on : (a : Action) (e : Envelope) → a ≡ Drop e → (r : Sent) (cs' : List (List ℕ)) → Dropped kind e count used n (x .cells) r cs'
+        → Stepped count a (seatOf count a) rs kind used n x r (record { cells = cs'; live = x .live; pend = x .pend; kept = x .kept; stored = x .stored })
+    drops-on a e p r cs' d = subst (λ (z : Action). Stepped count z (seatOf count z) rs kind used n x r (x' e (seatOf count a) r cs')) (sym p)
+        (drops e (seatOf count (Drop e)) r cs' d)

@@ -1,10 +1,10 @@
 // Every pending message is sent again, in place, at most so many of them; and the same with the cells put back after an 8.
+use answers::Answer;
 use answers::is_done;
 use link_rows::RECORD;
+use net_rows::Sent;
 use sys_emits::Emitted;
 use sys_reacts::roomy;
-use net_rows::Sent;
-use answers::Answer;
 use types::Envelope;
 use types::Id;
 use types::Kind;

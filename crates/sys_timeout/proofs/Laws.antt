@@ -87,11 +87,13 @@ module _ (state timer : ℕ) (t : List (List ℕ)) (used at : ℕ) (laid : Table
   unfolding choose
   none-decides h = rw (none-ignored 3 state nobody timer t used at laid e h)
 
-  pub one-ignores : at < used → ignored (replied (getD t at []) nobody timer) ≡ true → used ≡ choose (ignored answer) used (firstOf 3 state timer (rulesIn t used))
+  pub one-ignores : at < used → ignored (replied (getD t at []) nobody timer) ≡ true
+      → used ≡ choose (ignored answer) used (firstOf 3 state timer (rulesIn t used))
   unfolding choose
   one-ignores h i = rw (row-replies 3 state nobody timer t used at laid e h, i)
 
-  pub one-decides : at < used → ignored (replied (getD t at []) nobody timer) ≡ false → at ≡ choose (ignored answer) used (firstOf 3 state timer (rulesIn t used))
+  pub one-decides : at < used → ignored (replied (getD t at []) nobody timer) ≡ false
+      → at ≡ choose (ignored answer) used (firstOf 3 state timer (rulesIn t used))
   unfolding choose
   one-decides h i = e ∙ rw (row-replies 3 state nobody timer t used at laid e h, i)
 
@@ -148,18 +150,20 @@ module _ (me : Id) (count : ℕ) (rs : List Rule) (kind : Kind) (used n : ℕ) (
         (record { cells = x .cells; live = set (x .live) 6 (cut .0); pend = x .pend; kept = x .kept; stored = x .stored })
     unfolding lastThen
     idle i =
-        let put = put-timers (x .live) (x .pend) (cut .0) (fine .live) small in
+        let w = x .live in
+        let put = put-timers w (x .pend) (cut .0) (fine .live) small in
         record {
           fine = record { net = fine .net; room = fine .room; live = put .laid; kept = fine .kept };
           runs = λ a hall size last.
               idle-is me kind x used rs hall last t near is-set not-network (cut .0) gone i
               ∙ ap (λ (b : Actor). done (holding me hall (netOf kind last (x .cells) used) b))
-              (sym (as-settled rs (durableIn (x .live) (x .pend)) (cut .0) (getD (x .live) 7 0) (x .live) (set (x .live) 6 (cut .0)) (x .pend) put (x .kept) (x .stored)));
+              (sym (as-settled rs (durableIn w (x .pend)) (cut .0) (getD w 7 0) w (set w 6 (cut .0)) (x .pend) put (x .kept) (x .stored)));
           stops = λ a. absurd (not-both (isDone Done) refl a);
           same = λ a. absurd (not-both (isDone Done) refl a);
         }
 
-    pub timed : (os : List InnerCommand) → ignored (reply rs 3 (getD (x .live) 7 0) nobody t) ≡ false → reply rs 3 (getD (x .live) 7 0) nobody t .out ≡ os
+    pub timed : (os : List InnerCommand) → ignored (reply rs 3 (getD (x .live) 7 0) nobody t) ≡ false
+        → reply rs 3 (getD (x .live) 7 0) nobody t .out ≡ os
         → (r : Sent) (x' : Rows) → Acted me (reacting me kind os (cut .0) (getD (x .live) 7 0) used x) (λ last. last) kind used n x r x'
         → Stepped count (Timeout me t) me rs kind used n x r x'
     unfolding lastThen

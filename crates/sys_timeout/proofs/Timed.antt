@@ -126,6 +126,7 @@ module _ (me : Id) (kind : Kind) (x : Rows) (used : ℕ) (rs : List Rule) (hall 
         let ds = resent (durableIn w (x .pend) .pending) in
         handled network refl is-set
         ∙ ap (λ (b : Bool). guard (not b) 1 (runCommands (roomOf (x .cells)) me (Set network ∷ ds)
-        (holding me hall net (withLink link (withTimers (cancelTimer network (listed (getD w 6 0))) (actorAt rs x)))))) (more-than (durableIn w (x .pend) .pending) q qs f)
+        (holding me hall net (withLink link (withTimers (cancelTimer network (listed (getD w 6 0))) (actorAt rs x))))))
+        (more-than (durableIn w (x .pend) .pending) q qs f)
         ∙ run-set me hall net _ (roomOf (x .cells)) ds network
         ∙ ap (λ (ts : List ℕ). runCommands (roomOf (x .cells)) me ds (holding me hall net (withTimers ts (actorAt rs x)))) (set-again (getD w 6 0) is-set)

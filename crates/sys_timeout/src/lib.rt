@@ -111,8 +111,9 @@ fn on_user(
         (rowsOf (now (c .entry)) (now (live .entry)) (now (pend .entry)) (now (kept .entry)) (now (stored .entry)))
         r (rowsOf (now (c .exit)) (now (live .exit)) (now (pend .exit)) (now (kept .exit)) (now (stored .exit)))) ⌝ }
 {
+    let set = live[6] as u32;
     let state = live[7];
-    let cut = Timers(live[6] as u32).cancel(timer);
+    let cut = Timers(set).cancel(timer);
     let timers = cut.timers;
     let at = decides(table, rules, state, timer);
     if rules <= at {

@@ -1,6 +1,6 @@
 -- What is loaded is laid out, and the row of a start says what the rules' reply says.
 -- Assumes nothing.
-use Prim.Native.Nat.{ℕ, zero, suc, _+_, _≤_, _<_}
+use Prim.Native.Nat.{ℕ, zero, suc, _-_, _≤_, _<_}
 use native.Mathlib.Omega.{arith}
 use mathlib.Core.Path.{_≡_, refl, sym, ap, _∙_}
 use mathlib.Core.Bool.{Bool, true, false}
@@ -12,14 +12,15 @@ use borrow.Author.Tests.{ltb-true, ltb-false, lt-ltb, le-ltb}
 use Rattle.lists.specs.Lists.{choose}
 use Rattle.types.specs.Capacities.{mostPending}
 use Rattle.types.specs.declared.Storage.{Storage}
+use Rattle.types.specs.declared.Storage.the-variants.{Nothing, Value}
 use Rattle.rules.specs.Inner.{Reply, atStart, nobody}
-use Rattle.rules.specs.Link.{Durable, fresh, durableOf}
-use Rattle.link_tables.specs.Rows.{RowLaid, TableLaid, orders, replied, rulesIn, firstOf, startEvent, startValue}
+use Rattle.rules.specs.Link.{fresh, durableOf}
+use Rattle.link_tables.specs.Rows.{RowLaid, TableLaid, orders, rulesIn, startEvent, startValue}
 use Rattle.link_tables.proofs.Told.{zero-laid}
 use Rattle.link_tables.proofs.Replies.{start-is, row-replies, none-replies}
-use Rattle.link_rows.specs.Rows.{rowSize, pendingIn, numberIn, storageIn, durableIn, HeadLaid}
+use Rattle.link_rows.specs.Rows.{rowSize, pendingIn, numberIn, storageIn, durableIn}
 use Rattle.link_rows.proofs.Heads.{sendable-same}
-use Rattle.sys_rows.specs.Rows.{storedIn, freshRow, TailLaid, RowsLaid, Settled}
+use Rattle.sys_rows.specs.Rows.{storedIn, freshRow, RowsLaid, Settled}
 use Rattle.sys_rows.proofs.Laws.{aside, aside-head, tail-at, tail-marks}
 use Rattle.sys_rows.proofs.Fresh.{fresh-durable, fresh-laid}
 use Rattle.sys_moves.proofs.Taken.{timers-small}
@@ -145,13 +146,14 @@ pub record Starts (a : Reply) (r : List ℕ) (value : ℕ) : Type 0 where
 
 module _ (t : List (List ℕ)) (rules : ℕ) (laid : TableLaid t rules) (s : Storage) where
   abbrev at : ℕ
-  at = startPlace t rules s
+  at = startPlace t rules (startEvent s) (startValue s)
 
-  pub starts : Starts (atStart (rulesIn t rules) s) (startRow t rules s) (startValue s)
+  starts : Starts (atStart (rulesIn t rules) s) (startRow t rules (startEvent s) (startValue s)) (startValue s)
   unfolding startRow choose orders
   starts = go (ltb at rules) refl
     where
-      by : (b : Reply) (r : List ℕ) → atStart (rulesIn t rules) s ≡ b → RowLaid r → b .out ≡ orders r nobody (startValue s) → b .state ≡ getD r 4 0
+      by : (b : Reply) (r : List ℕ) → atStart (rulesIn t rules) s ≡ b → RowLaid r
+          → b .out ≡ orders r nobody (startValue s) → b .state ≡ getD r 4 0
           → Starts (atStart (rulesIn t rules) s) r (startValue s)
       by b r e l o n = record { laid = l; out = ap (λ (y : Reply). y .out) e ∙ o; state = ap (λ (y : Reply). y .state) e ∙ n }
 
@@ -163,41 +165,51 @@ module _ (t : List (List ℕ)) (rules : ℕ) (laid : TableLaid t rules) (s : Sto
           let h = ltb-false at rules e in
           by _ _ (start-is (rulesIn t rules) s ∙ none-replies (startEvent s) 0 nobody (startValue s) t rules at laid refl h) zero-laid refl refl
 
-  pub starts-by : (r : List ℕ) (value : ℕ) → r ≡ startRow t rules s → value ≡ startValue s → Starts (atStart (rulesIn t rules) s) r value
-  starts-by r value e f = rw (e, f) starts
+  pub starts-by : (event value : ℕ) (r : List ℕ) → event ≡ startEvent s → value ≡ startValue s → r ≡ startRow t rules event value
+      → Starts (atStart (rulesIn t rules) s) r value
+  starts-by event value r e f g = rw (g, e, f) starts
 
 -- ---- its event and its value, in a row
 module _ (w : List ℕ) where
-  pub value-none : getD w 2 0 ≡ 0 → 0 ≡ startValue (savedIn w)
-  unfolding startValue storageIn
-  value-none e = rw e
+  saved-none : getD w 2 0 ≡ 0 → savedIn w ≡ Nothing
+  unfolding storageIn
+  saved-none e = rw e
 
-  pub value-some : (getD w 2 0 ≡ 0 → ⊥) → getD w 3 0 ≡ startValue (savedIn w)
-  unfolding startValue storageIn
-  value-some n = go (getD w 2 0) n
+  saved-some : (getD w 2 0 ≡ 0 → ⊥) → savedIn w ≡ Value (getD w 3 0)
+  unfolding storageIn
+  saved-some n = go (getD w 2 0) n
     where
-      go : (m : ℕ) → (m ≡ 0 → ⊥) → getD w 3 0 ≡ startValue (storageIn m (getD w 3 0))
+      go : (m : ℕ) → (m ≡ 0 → ⊥) → storageIn m (getD w 3 0) ≡ Value (getD w 3 0)
       go zero n = absurd (n refl)
       go (suc m) n = refl
 
-  event-is : getD w 2 0 ≤ 1 → getD w 2 0 ≡ startEvent (savedIn w)
-  unfolding startEvent storageIn
-  event-is h = go (getD w 2 0) h
-    where
-      go : (m : ℕ) → m ≤ 1 → m ≡ startEvent (storageIn m (getD w 3 0))
-      go zero h = refl
-      go (suc m) h = omega arith
+  pub event-none : getD w 2 0 ≡ 0 → 0 ≡ startEvent (savedIn w)
+  unfolding startEvent
+  event-none e = rw (saved-none e)
+
+  pub event-some : (getD w 2 0 ≡ 0 → ⊥) → 1 ≡ startEvent (savedIn w)
+  unfolding startEvent
+  event-some n = rw (saved-some n)
+
+  pub value-none : getD w 2 0 ≡ 0 → 0 ≡ startValue (savedIn w)
+  unfolding startValue
+  value-none e = rw (saved-none e)
+
+  pub value-some : (getD w 2 0 ≡ 0 → ⊥) → getD w 3 0 ≡ startValue (savedIn w)
+  unfolding startValue
+  value-some n = rw (saved-some n)
+
+pub few-events : (s : Storage) → startEvent s < 4
+unfolding startEvent
+few-events Nothing = omega arith
+few-events (Value v) = omega arith
 
 -- The row that is found, or that of zeros.
-module _ (t : List (List ℕ)) (rules : ℕ) (w : List ℕ) (value : ℕ) (saves : getD w 2 0 ≤ 1) (v : value ≡ startValue (savedIn w)) (at : ℕ)
-    (found : at ≡ firstOf (getD w 2 0) 0 value (rulesIn t rules)) where
-  at-start : at ≡ startPlace t rules (savedIn w)
-  at-start = found ∙ (λ j. firstOf (event-is w saves j) 0 (v j) (rulesIn t rules))
-
-  pub row-found : at < rules → getD t at [] ≡ startRow t rules (savedIn w)
+module _ (t : List (List ℕ)) (rules event value at : ℕ) (found : at ≡ startPlace t rules event value) where
+  pub row-found : at < rules → getD t at [] ≡ startRow t rules event value
   unfolding startRow choose
-  row-found h = rw (← at-start, lt-ltb at rules h)
+  row-found h = rw (← found, lt-ltb at rules h)
 
-  pub row-none : rules ≤ at → replicate 16 0 ≡ startRow t rules (savedIn w)
+  pub row-none : rules ≤ at → replicate 16 0 ≡ startRow t rules event value
   unfolding startRow choose
-  row-none h = rw (← at-start, le-ltb at rules h)
+  row-none h = rw (← found, le-ltb at rules h)

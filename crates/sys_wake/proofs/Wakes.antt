@@ -4,8 +4,8 @@ use Prim.Native.Nat.{ℕ, _%_}
 use native.Mathlib.Omega.{arith}
 use mathlib.Core.Path.{_≡_, refl, sym, ap, _∙_}
 use mathlib.Core.Bool.{Bool, true, false}
-use mathlib.Core.List.{List, _∷_}
-use lib.ListN.{length, getD, set}
+use mathlib.Core.List.{List}
+use lib.ListN.{getD, set}
 use lib.Seq.{getD-set-same, getD-set-other, set-getD, set-set}
 use borrow.Author.Tests.{eq-eqb, ne-eqb}
 use Rattle.types.specs.Capacities.{mostPending, network}
@@ -20,8 +20,7 @@ use Rattle.answers.specs.Answers.{isDone}
 use Rattle.rules.specs.Outcome.{Outcome, done, refused, bind, guard}
 use Rattle.rules.specs.Inner.{Reply, atStart, nobody}
 use Rattle.rules.specs.Timers.{setTimer}
-use Rattle.rules.specs.Network.{Net}
-use Rattle.rules.specs.Link.{Durable, fresh, durableOf, Output, Link, Did, output, startedBy, starting, onStart}
+use Rattle.rules.specs.Link.{Durable, Output, Did, output, startedBy, starting, onStart}
 use Rattle.rules.specs.System.{Actor, Sys, systems, withTimers, withLink, withMark, runCommands, perform, wake, act}
 use Rattle.link_timers.specs.Views.{listed}
 use Rattle.net_rows.specs.declared.Sent.{Sent}
@@ -33,7 +32,7 @@ use Rattle.sys_seat.proofs.Seats.{run-set}
 use Rattle.sys_seat.proofs.Actions.{bind-same, seat-wake, seat-recover}
 use Rattle.sys_emits.proofs.Laws.{not-both}
 use Rattle.sys_reacts.specs.Views.{limitsOf}
-use Rattle.sys_rows.specs.Rows.{storedIn, actorOf, RowsLaid, Settled}
+use Rattle.sys_rows.specs.Rows.{storedIn, actorOf}
 use Rattle.sys_rows.proofs.Laws.{aside}
 use Rattle.sys_moves.specs.Views.{capsOf, Rows, rowsOf, actorAt, sysAt, running, reacting, Fine, Acted, lastThen, Stepped, Woken}
 use Rattle.sys_moves.proofs.Ends.{ended-by, ended-refused}
@@ -112,7 +111,8 @@ module _ (me : Id) (kind : Kind) (used n : ℕ) (rs : List Rule) (x : Rows) (t :
       → Woken count me rs kind used n x r z
   unfolding durableIn
   woken-by count r z acted =
-      ended-by me count rs (waking me kind used rs x) (λ last. last) kind used n x (reacting me kind (orders row nobody value) t (getD row 4 0) used x) r z acted
+      ended-by me count rs (waking me kind used rs x) (λ last. last) kind used n x
+      (reacting me kind (orders row nobody value) t (getD row 4 0) used x) r z acted
       (λ hall size last. start-runs me kind used rs hall last x t set-to loaded (orders row nobody value) (getD row 4 0) (st .out) (st .state))
 
 -- ---- a start, from the one on loaded rows
@@ -223,7 +223,7 @@ module _ (count : ℕ) (i : Id) (rs : List Rule) (kind : Kind) (used n : ℕ) (x
       stepped-back f =
           let e = woken .same f in
           let e1 : set (z .live) 5 (getD w 5 0) ≡ w =
-              ap (λ (l : List ℕ). set l 5 (getD w 5 0)) (ap (λ (a : Rows). a .live) (e .0)) ∙ set-set w 5 0 (getD w 5 0) ∙ set-getD w 5 0 in
+          ap (λ (l : List ℕ). set l 5 (getD w 5 0)) (ap (λ (a : Rows). a .live) (e .0)) ∙ set-set w 5 0 (getD w 5 0) ∙ set-getD w 5 0 in
           let e2 : z .pend ≡ x .pend = ap (λ (a : Rows). a .pend) (e .0) in
           record {
             fine = record { net = woken .fine .net; room = woken .fine .room; live = rw (e1, e2) (fine .live); kept = woken .fine .kept };

@@ -7,7 +7,7 @@ use lib.Dec.{ltb}
 use Rattle.lists.specs.Lists.{choose}
 use Rattle.types.specs.declared.Storage.{Storage}
 use Rattle.rules.specs.Link.{Durable, fresh, durableOf}
-use Rattle.link_tables.specs.Rows.{rulesIn, firstOf, startEvent, startValue}
+use Rattle.link_tables.specs.Rows.{rulesIn, firstOf}
 use Rattle.link_rows.specs.Rows.{durableIn, storageIn}
 use Rattle.sys_rows.specs.Rows.{storedIn, Settled}
 
@@ -24,8 +24,8 @@ abbrev pub savedIn : List ℕ → Storage
 savedIn w = storageIn (getD w 2 0) (getD w 3 0)
 
 -- The row of the first rule that matches a start, or one of zeros, which does nothing and leads to state 0.
-abbrev pub startPlace : List (List ℕ) → ℕ → Storage → ℕ
-startPlace t rules s = firstOf (startEvent s) 0 (startValue s) (rulesIn t rules)
+abbrev pub startPlace : List (List ℕ) → ℕ → ℕ → ℕ → ℕ
+startPlace t rules event value = firstOf event 0 value (rulesIn t rules)
 
-unfoldable pub startRow : List (List ℕ) → ℕ → Storage → List ℕ
-startRow t rules s = choose (ltb (startPlace t rules s) rules) (getD t (startPlace t rules s) []) (replicate 16 0)
+unfoldable pub startRow : List (List ℕ) → ℕ → ℕ → ℕ → List ℕ
+startRow t rules event value = choose (ltb (startPlace t rules event value) rules) (getD t (startPlace t rules event value) []) (replicate 16 0)

@@ -15,13 +15,13 @@ use types::MOST_PENDING;
 use types::MOST_RULES;
 use types::NETWORK;
 ghost use mathlib.Core.Path.{_≡_};
-ghost use Prim.Native.Nat.{ℕ, _≤_, _<_};
+ghost use Prim.Native.Nat.{ℕ, _<_};
 ghost use lib.ListN.{length, getD, set};
 ghost use Rattle.types.specs.Capacities.{network};
 ghost use Rattle.types.specs.declared.Action.the-variants.{Recover};
 ghost use Rattle.rules.specs.Timers.{setTimer};
 ghost use Rattle.link_timers.specs.Views.{listed};
-ghost use Rattle.link_tables.specs.Rows.{TableLaid, rulesIn, startValue};
+ghost use Rattle.link_tables.specs.Rows.{TableLaid, rulesIn, startEvent, startValue};
 ghost use Rattle.link_rows.specs.Rows.{rowSize, durableIn};
 ghost use Rattle.sys_rows.specs.Rows.{RowsLaid};
 ghost use Rattle.sys_moves.specs.Views.{rowsOf, Fine, Stepped, Woken};
@@ -29,11 +29,11 @@ ghost use Rattle.sys_wake.specs.Starts.{begun, Loaded, savedIn, startRow
 
 // ---- what is stored becomes live
 // Mark and timers are put in place, and state 0.
-fn put_marks(live: &mut [u64], mark: u64, timers: u64)
+fn put_marks(live: &mut [u64], crashed: u64, timers: u64)
     requires { ⌜ length (now live) ≡ rowSize ⌝ }
-    ensures { λ _. ⌜ now (live .exit) ≡ set (set (set (now (live .entry)) 5 mark) 6 timers) 7 0 ⌝ }
+    ensures { λ _. ⌜ now (live .exit) ≡ set (set (set (now (live .entry)) 5 crashed) 6 timers) 7 0 ⌝ }
 {
-    live[5] = mark;
+    live[5] = crashed;
     live[6] = timers;
     live[7] = 0;
 }
@@ -48,16 +48,16 @@ pub fn load(
     requires { ⌜ RowsLaid (now live) (now pend) × RowsLaid (now kept) (now stored) ⌝ }
     ensures { λ _. ⌜ Loaded (now (live .entry)) (now (kept .entry)) (now (stored .entry)) (now (live .exit)) (now (pend .exit)) ⌝ }
 {
-    let mark = live[5];
+    let crashed = live[5];
     let timers = live[6];
     if kept[5] == 0 {
         *live = [0u64; ROW];
         live[0] = 1;
-        put_marks(live, mark, timers);
+        put_marks(live, crashed, timers);
         return;
     }
     *live = *kept;
-    put_marks(live, mark, timers);
+    put_marks(live, crashed, timers);
     copy_records(stored, pend, kept[1] as usize);
 }
 
@@ -71,7 +71,18 @@ fn with_network(timers: u32) -> u32
     w.0
 }
 
-// The value of a start: what the inner actor has saved, or 0.
+// The event of a start: 0 where the inner actor has saved nothing, else 1.
+fn start_event(live: &[u64]) -> u64
+    requires { ⌜ length (now live) ≡ rowSize ⌝ }
+    ensures { λ r. ⌜ r ≡ startEvent (savedIn (now (live .entry))) ⌝ }
+{
+    if live[2] != 0 {
+        return 1;
+    }
+    0
+}
+
+// Its value: what the inner actor has saved, or 0.
 fn start_value(live: &[u64]) -> u32
     requires { ⌜ (length (now live) ≡ rowSize) × (getD (now live) 3 0 < 4294967296) ⌝ }
     ensures { λ r. ⌜ r ≡ startValue (savedIn (now (live .entry))) ⌝ }
@@ -82,12 +93,12 @@ fn start_value(live: &[u64]) -> u32
     live[3] as u32
 }
 
-// The row that decides a start. Its event is 0 where nothing is saved, else 1: place 2 has just that.
-fn start_row(live: &[u64], table: &[[u64; 16]], rules: usize, value: u32) -> [u64; 16]
-    requires { ⌜ (length (now live) ≡ rowSize) × (getD (now live) 2 0 ≤ 1) × TableLaid (now table) rules × (value ≡ startValue (savedIn (now live))) ⌝ }
-    ensures { λ r. ⌜ r ≡ startRow (now (table .entry)) rules (savedIn (now (live .entry))) ⌝ }
+// The row that decides it: every start begins in state 0. Where no rule matches, a row of zeros.
+fn start_row(table: &[[u64; 16]], rules: usize, event: u64, value: u32) -> [u64; 16]
+    requires { ⌜ TableLaid (now table) rules × (event < 4) ⌝ }
+    ensures { λ r. ⌜ r ≡ startRow (now (table .entry)) rules event value ⌝ }
 {
-    let at = first_match(table, rules, live[2], 0, value as u64);
+    let at = first_match(table, rules, event, 0, value as u64);
     if at < rules {
         return table[at];
     }
@@ -115,8 +126,9 @@ fn start(
         r (rowsOf (now (c .exit)) (now (live .exit)) (now (pend .exit)) (now (kept .exit)) (now (stored .exit)))) ⌝ }
 {
     let timers = with_network(live[6] as u32);
+    let event = start_event(live);
     let value = start_value(live);
-    let row = start_row(live, table, rules, value);
+    let row = start_row(table, rules, event, value);
     let state = row[4];
     by_rule(
         c,
@@ -137,7 +149,7 @@ fn start(
 }
 
 // ---- a start, and a recovery
-// A start on what is stored: 6, 7 or 8 and nothing changed, or all of it done.
+// A start on what is stored: 6, 7 or 8 and nothing changed, or all of it done. The two rows that are loaded over are kept, to be put back.
 pub fn wake(
     c: &mut [[u64; 4]; MOST_ENTRIES],
     live: &mut [u64; ROW],
@@ -159,7 +171,19 @@ pub fn wake(
     let old = *live;
     let olds = *pend;
     load(live, pend, kept, stored);
-    let s = start(c, live, pend, kept, stored, table, rules, kind, used, len, me);
+    let s = start(
+        c,
+        live,
+        pend,
+        kept,
+        stored,
+        table,
+        rules,
+        kind,
+        used,
+        len,
+        me,
+    );
     let a = s.answer;
     if is_done(a) {
         return s;
@@ -170,6 +194,7 @@ pub fn wake(
 }
 
 // A recovery: 4 where the actor is not crashed; else the mark goes, and it is a start. The mark is there again after a refusal.
+// The test of i stands in the caller, which lends its rows: `count` is for the contract.
 pub fn recover(
     c: &mut [[u64; 4]; MOST_ENTRIES],
     live: &mut [u64; ROW],
@@ -198,7 +223,19 @@ pub fn recover(
         };
     }
     live[5] = 0;
-    let s = wake(c, live, pend, kept, stored, table, rules, kind, used, len, i);
+    let s = wake(
+        c,
+        live,
+        pend,
+        kept,
+        stored,
+        table,
+        rules,
+        kind,
+        used,
+        len,
+        i,
+    );
     let a = s.answer;
     if is_done(a) {
         return s;

@@ -1,3 +1,5 @@
+-- Each return knows which of the words decided.
+-- Assumes nothing.
 use native.Mathlib.Omega.{arith}
 use Rattle.net_cells.proofs.Laws.{before-head, after-head, before-number, after-number, by-payload}
 use borrow.Author.Needs.{needs}

@@ -1,3 +1,5 @@
+-- Each arm knows the message, whose number and payload are in range.
+-- Assumes nothing.
 use Rattle.net_cells.proofs.Laws.{made-message, made-ack}
 use borrow.Author.Needs.{needs}
 use Rattle.net_cells.proofs.cell_of.Statement.{statement}
@@ -19,13 +21,13 @@ head-with-requires-2 : tie.Need-head-with-requires-2
 head-with-requires-2 c κs = search needs
 
 returns : tie.Need-returns
-returns c = 
+returns c =
     let e = c .before .before .before .before .before .before .before .args .e in
     made-message e _ _ (c .before .head-with .result) (c .before .before .before .m .given .1) (c .before .head-with .ensures)
     (search needs) (search needs) (search needs)
 
 returns-2 : tie.Need-returns-2
-returns-2 c = 
+returns-2 c =
     let e = c .before .before .before .before .before .before .args .e in
     made-ack e _ (c .head-with2 .result) (c .before .before .m2 .given .1) (c .head-with2 .ensures) (search needs) (search needs)
 

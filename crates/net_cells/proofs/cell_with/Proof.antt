@@ -1,3 +1,5 @@
+-- The cell of the envelope once, with the count in place of the one.
+-- Assumes nothing.
 use Rattle.net_cells.proofs.Laws.{with-count}
 use borrow.Author.Needs.{needs}
 use Rattle.net_cells.proofs.cell_with.Statement.{statement}

@@ -1,3 +1,5 @@
+-- The words are taken apart as the definition does.
+-- Assumes nothing.
 use Rattle.net_cells.specs.Cells.{entryOf}
 use borrow.Author.Needs.{needs}
 use Rattle.net_cells.proofs.entry_of.Statement.{statement}

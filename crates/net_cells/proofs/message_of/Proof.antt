@@ -1,3 +1,5 @@
+-- The tag decides.
+-- Assumes nothing.
 use Rattle.net_cells.proofs.Laws.{is-deliver, is-ack}
 use borrow.Author.Needs.{needs}
 use Rattle.net_cells.proofs.message_of.Statement.{statement}

@@ -1,3 +1,5 @@
+-- Each return knows a word that differs, or that the first two are equal.
+-- Assumes nothing.
 use native.Mathlib.Omega.{arith}
 use Rattle.net_cells.proofs.Laws.{other-head, other-number, same-payload}
 use borrow.Author.Needs.{needs}

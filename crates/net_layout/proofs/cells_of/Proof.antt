@@ -1,3 +1,5 @@
+-- After i turns the array holds the cells of the first i entries, zero behind. Each can be read back, as its types say.
+-- Assumes nothing.
 use borrow.Author.Needs.{needs}
 use native.Mathlib.Omega.{arith}
 use Prim.Native.Nat.{_≤_, _-_}
@@ -13,7 +15,8 @@ use Rattle.net_layout.proofs.cells_of.Statement.{statement}
 use Rattle.net_layout.proofs.cells_of.Tie as tie
 
 abbrev Inv-loop : tie.InvT-loop
-Inv-loop used entries cs₀ i₀ cs i = (i ≤ used) × (cs ≡ pad mostEntries zeroCell (map cellOf (take i entries))) × (map entryOf (map cellOf (take i entries)) ≡ take i entries)
+Inv-loop used entries cs₀ i₀ cs i =
+    (i ≤ used) × (cs ≡ pad mostEntries zeroCell (map cellOf (take i entries))) × (map entryOf (map cellOf (take i entries)) ≡ take i entries)
 
 abbrev μ-loop : tie.MeasureT-loop
 μ-loop used entries cs₀ i₀ cs i = used - i
@@ -44,7 +47,7 @@ loop-less : tie.Need-loop-less Inv-loop μ-loop
 loop-less c = search needs
 
 loop-again : tie.Need-loop-again Inv-loop μ-loop
-loop-again c = 
+loop-again c =
     let l = c .before .before .before .loop in
     let es = c .before .before .before .before .args .t1 in
     let w = c .cell-with in
@@ -55,7 +58,7 @@ loop-again c =
     )
 
 returns : tie.Need-returns Inv-loop μ-loop
-returns c = 
+returns c =
     let a = c .before .before .args in
     let l = c .before .loop in
     let e : l .i ≡ a .used = omega arith in

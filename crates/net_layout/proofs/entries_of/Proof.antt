@@ -1,3 +1,5 @@
+-- After i turns the array holds the entries of the first i cells, zero behind. No count is past its type.
+-- Assumes nothing.
 use borrow.Author.Needs.{needs}
 use native.Mathlib.Omega.{arith}
 use Prim.Native.Nat.{_≤_, _-_}
@@ -31,9 +33,9 @@ shared-slice-copy-out-x : tie.Need-shared-slice-copy-out-x Inv-loop μ-loop
 shared-slice-copy-out-x c = search needs
 
 entry-of-requires : tie.Need-entry-of-requires Inv-loop μ-loop
-entry-of-requires c κs = 
+entry-of-requires c κs =
     let s = c .before .before .before .before in
-    count-fits (s .args .c .now) (s .args .used) (c .before .before .loop .i) (omega arith) (omega arith) (s .pre .2)
+    count-fits (s .args .c .now) (s .args .used) (c .before .before .loop .i) (omega arith) (omega arith) (s .pre .counts)
 
 mul-es : tie.Need-mul-es Inv-loop μ-loop
 mul-es c = search needs
@@ -48,7 +50,7 @@ loop-less : tie.Need-loop-less Inv-loop μ-loop
 loop-less c = search needs
 
 loop-again : tie.Need-loop-again Inv-loop μ-loop
-loop-again c = 
+loop-again c =
     let l = c .before .before .before .loop in
     let s = c .before .before .before .before .before in
     let w = c .entry-of in (
@@ -57,7 +59,7 @@ loop-again c =
     )
 
 returns : tie.Need-returns Inv-loop μ-loop
-returns c = 
+returns c =
     let a = c .before .before .before .args in
     let l = c .before .loop in
     let e : l .i ≡ a .used = omega arith in

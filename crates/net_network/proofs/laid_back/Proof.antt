@@ -1,3 +1,5 @@
+-- The entries are those of the used cells, zero behind.
+-- Assumes nothing.
 use borrow.Author.Needs.{needs}
 use Rattle.net_network.proofs.laid_back.Statement.{statement}
 use Rattle.net_network.proofs.laid_back.Tie as tie

@@ -1,3 +1,5 @@
+-- Each arm knows the kind.
+-- Assumes nothing.
 use borrow.Author.Needs.{needs}
 use Rattle.net_network.proofs.last_after.Statement.{statement}
 use Rattle.net_network.proofs.last_after.Tie as tie

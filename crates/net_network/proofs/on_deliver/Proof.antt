@@ -35,7 +35,8 @@ laid-back-requires c κs =
     let k = c .before .before .before .before .before .len in
     let w = c .before .before .before .before .cells-of in
     let a = c .before .before .on-deliver in
-    deliver-back (s .args .n) (s .pre) (w .result) (w .ensures) (k .result) (k .ensures) (a .result) (a .last .0) (s .args .e) (a .ensures (s .args .n .last)) .0
+    deliver-back (s .args .n) (s .pre) (w .result) (w .ensures) (k .result) (k .ensures) (a .result) (a .last .0) (s .args .e)
+    (a .ensures (s .args .n .last)) .0
 
 returns : tie.Need-returns
 returns c =
@@ -45,7 +46,8 @@ returns c =
     let a = c .before .before .before .on-deliver in
     let l = c .before .before .before .before .before .before .before .last-after .ensures in
     c .laid-back .ensures ∙ ap (λ x. back (a .result .answer) (readBack (s .args .n .kind) (a .last .0) (a .result .used) x)) l
-    ∙ deliver-back (s .args .n) (s .pre) (w .result) (w .ensures) (k .result) (k .ensures) (a .result) (a .last .0) (s .args .e) (a .ensures (s .args .n .last)) .1
+    ∙ deliver-back (s .args .n) (s .pre) (w .result) (w .ensures) (k .result) (k .ensures) (a .result) (a .last .0) (s .args .e)
+    (a .ensures (s .args .n .last)) .1
 
 pub on-deliver-spec : {M : Type 1} → statement M
 on-deliver-spec =

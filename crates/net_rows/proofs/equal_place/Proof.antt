@@ -2,7 +2,7 @@
 -- Assumes nothing.
 use mathlib.Core.Path.{_∙_}
 use Rattle.net_rows.specs.Views.{entryList}
-use Rattle.net_rows.proofs.ByKind.{is-alone, ready-as, place-as, ascend-set, ascend-counted}
+use Rattle.net_rows.proofs.ByKind.{is-alone, ready-as, place-as, ascend, set-sorted, counted-sorted}
 use borrow.Author.Needs.{needs}
 use Rattle.net_rows.proofs.equal_place.Statement.{statement}
 use Rattle.net_rows.proofs.equal_place.Tie as tie
@@ -25,7 +25,7 @@ sorted-place-requires : tie.Need-sorted-place-requires
 sorted-place-requires c κs =
     let s = c .before .before .before in
     let r = ready-as (c .enum-told2 .given .1) (s .pre) in
-    (r .laid, is-alone (s .args .e) _ (c .before .before .cell-of .ensures), ascend-set _ (r .order))
+    (r .laid, is-alone (s .args .e) _ (c .before .before .cell-of .ensures), ascend _ set-sorted _ (r .order))
 
 enum-told-3 : tie.Need-enum-told-3
 enum-told-3 c = search needs
@@ -34,7 +34,7 @@ sorted-place-requires-2 : tie.Need-sorted-place-requires-2
 sorted-place-requires-2 c κs =
     let s = c .before .before .before in
     let r = ready-as (c .enum-told3 .given .1) (s .pre) in
-    (r .laid, is-alone (s .args .e) _ (c .before .before .cell-of .ensures), ascend-counted _ (r .order))
+    (r .laid, is-alone (s .args .e) _ (c .before .before .cell-of .ensures), ascend _ counted-sorted _ (r .order))
 
 returns : tie.Need-returns
 returns c =

@@ -1,6 +1,8 @@
+-- On kinds 0 and 2 a Deliver does what a Drop does. On kind 1 the cells stay.
+-- Assumes nothing.
 use mathlib.Core.Path.{ap}
-use Rattle.net_rows.proofs.ByKind.{delivered-one, delivered-copy}
 use Rattle.rules.specs.Network.{isDuplicating}
+use Rattle.net_rows.proofs.ByKind.{delivered-one, delivered-copy}
 use borrow.Author.Needs.{needs}
 use Rattle.net_rows.proofs.on_deliver.Statement.{statement}
 use Rattle.net_rows.proofs.on_deliver.Tie as tie
@@ -25,18 +27,26 @@ same-length c = search needs
 
 returns : tie.Need-returns
 unfolding isDuplicating
-returns c = let s = c .before .before .before .before .before in λ last. delivered-one (s .pre .laid) (s .args .e) (s .args .kind) (ap isDuplicating (c .before .before .before .enum-told .given .1)) last (c .before .on-drop .result) (c .before .on-drop .last .0) (c .before .on-drop .ensures last)
+returns c =
+    let s = c .before .before .before .before .before in
+    let k = ap isDuplicating (c .before .before .before .enum-told .given .1) in
+    delivered-one (s .pre .laid) (s .args .e) (s .args .kind) k (c .before .on-drop .ensures)
 
 returns-2 : tie.Need-returns-2
 unfolding isDuplicating
-returns-2 c = let s = c .before .before in λ last. delivered-copy (s .pre .laid) (s .args .e) (s .args .kind) (ap isDuplicating (c .enum-told2 .given .1)) last
+returns-2 c =
+    let s = c .before .before in
+    delivered-copy (s .pre .laid) (s .args .e) (s .args .kind) (ap isDuplicating (c .enum-told2 .given .1))
 
 same-length-2 : tie.Need-same-length-2
 same-length-2 c = search needs
 
 returns-3 : tie.Need-returns-3
 unfolding isDuplicating
-returns-3 c = let s = c .before .before .before .before .before in λ last. delivered-one (s .pre .laid) (s .args .e) (s .args .kind) (ap isDuplicating (c .before .before .before .enum-told3 .given .1)) last (c .before .on-drop2 .result) (c .before .on-drop2 .last .0) (c .before .on-drop2 .ensures last)
+returns-3 c =
+    let s = c .before .before .before .before .before in
+    let k = ap isDuplicating (c .before .before .before .enum-told3 .given .1) in
+    delivered-one (s .pre .laid) (s .args .e) (s .args .kind) k (c .before .on-drop2 .ensures)
 
 pub on-deliver-spec : {M : Type 1} → statement M
 on-deliver-spec =

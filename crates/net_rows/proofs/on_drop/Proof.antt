@@ -1,3 +1,5 @@
+-- One copy goes. Where there is none, the answer is that of the kind, and nothing changes.
+-- Assumes nothing.
 use Rattle.net_rows.proofs.ByKind.{dropped, absent}
 use borrow.Author.Needs.{needs}
 use Rattle.net_rows.proofs.on_drop.Statement.{statement}
@@ -16,7 +18,7 @@ returns : tie.Need-returns
 returns c =
     let s = c .before .before .before .before .before .before in
     let w = c .before .before .before .before .equal-place in
-    λ last. dropped (s .pre .laid) (s .args .e) (s .args .kind) last (w .result) (w .ensures) (c .before .before .before .if1 .taken) (c .before .take-out .result) (c .before .take-out .last .0) (c .before .take-out .ensures (s .args .kind) last)
+    dropped (s .pre .laid) (s .args .e) (s .args .kind) (w .result) (w .ensures) (c .before .before .before .if1 .taken) (c .before .take-out .ensures)
 
 when-absent-requires : tie.Need-when-absent-requires
 when-absent-requires c κs = search needs
@@ -28,7 +30,7 @@ returns-2 : tie.Need-returns-2
 returns-2 c =
     let s = c .before .before .before .before in
     let w = c .before .before .equal-place in
-    λ last. rw (c .when-absent .ensures) (absent (s .pre .laid) (s .args .e) (s .args .kind) last (w .result) (w .ensures) (c .before .if1 .left))
+    rw (c .when-absent .ensures) (absent (s .pre .laid) (s .args .e) (s .args .kind) (w .result) (w .ensures) (c .before .if1 .left))
 
 pub on-drop-spec : {M : Type 1} → statement M
 on-drop-spec =

@@ -1,3 +1,5 @@
+-- The flows ascend, and a walk over the cells is one over the entries.
+-- Assumes nothing.
 use Rattle.net_rows.proofs.ByKind.{cells-flow, differ-is}
 use Rattle.net_rows.proofs.ordered_place.Statement.{statement}
 use Rattle.net_rows.proofs.ordered_place.Tie as tie

@@ -40,7 +40,7 @@ returns c =
     let s = c .before .before .before .before .before .before in
     let w = c .before .before .before .before .before .cell-of in
     let k = c .before .before .before .enum-told .given .1 in
-    λ last. sent-as (s .args .e) (w .ensures) k last (c .before .send-ordered .ensures last)
+    sent-as (s .args .e) (w .ensures) k (c .before .send-ordered .ensures)
 
 same-length-2 : tie.Need-same-length-2
 same-length-2 c = search needs
@@ -50,7 +50,7 @@ returns-2 c =
     let s = c .before .before .before .before .before .before in
     let w = c .before .before .before .before .before .cell-of in
     let k = c .before .before .before .enum-told2 .given .1 in
-    λ last. sent-as (s .args .e) (w .ensures) k last (c .before .send-once .ensures last)
+    sent-as (s .args .e) (w .ensures) k (c .before .send-once .ensures)
 
 same-length-3 : tie.Need-same-length-3
 same-length-3 c = search needs
@@ -60,7 +60,7 @@ returns-3 c =
     let s = c .before .before .before .before .before .before in
     let w = c .before .before .before .before .before .cell-of in
     let k = c .before .before .before .enum-told3 .given .1 in
-    λ last. sent-as (s .args .e) (w .ensures) k last (c .before .send-counted .ensures last)
+    sent-as (s .args .e) (w .ensures) k (c .before .send-counted .ensures)
 
 pub send-spec : {M : Type 1} → statement M
 send-spec =

@@ -1,18 +1,15 @@
-use native.Mathlib.Omega.{arith}
+-- The look-up tells whether it is there: then one copy more is counted, and else it goes in.
+-- Assumes nothing.
 use mathlib.Core.Path.{sym, _∙_}
-use Rattle.net_rows.proofs.Laws.{used-is}
-use Rattle.net_rows.proofs.Lookup.{before, told-at, told-free}
-use Rattle.lists.proofs.Places.{lead-le}
-use Rattle.types.specs.declared.Kind.the-variants.{UnorderedNonDuplicating}
-use Rattle.net_rows.specs.Views.{entryList}
-use Rattle.net_rows.specs.Parts.{envelopeIn}
-use Rattle.net_rows.proofs.ByKind.{ascend-counted, counted-sorted, put-there, put-missing, sent-by}
+use Rattle.net_rows.proofs.ByKind.{ascend, counted-sorted, at-fits, free-fits, sent-free, sent-again}
 use borrow.Author.Needs.{needs}
 use Rattle.net_rows.proofs.send_counted.Statement.{statement}
 use Rattle.net_rows.proofs.send_counted.Tie as tie
 
 look-up-requires : tie.Need-look-up-requires
-look-up-requires c κs = let s = c .before in (s .pre .0 .laid, s .pre .1, ascend-counted _ (s .pre .0 .order))
+look-up-requires c κs =
+    let s = c .before in
+    (s .pre .0 .laid, s .pre .1, ascend _ counted-sorted _ (s .pre .0 .order))
 
 enum-known-f : tie.Need-enum-known-f
 enum-known-f c = search needs
@@ -20,8 +17,8 @@ enum-known-f c = search needs
 count-up-requires : tie.Need-count-up-requires
 count-up-requires c κs =
     let s = c .before .before .before .before .before .before in
-    let m = told-at (envelopeIn (s .args .k)) (entryList (s .args .c .now) (s .args .used)) (ascend-counted _ (s .pre .0 .order)) _ (sym (c .before .before .before .before .look-up .ensures) ∙ c .before .before .f .given .1) in
-    (s .pre .0 .laid, omega (arith, m .within, used-is (s .args .c .now) (s .args .used) (s .args .len) (s .pre .0 .laid)))
+    let q = sym (c .before .before .before .before .look-up .ensures) ∙ c .before .before .f .given .1 in
+    (s .pre .0 .laid, at-fits (s .pre .0 .laid) (s .pre .1) counted-sorted (s .pre .0 .order) _ q)
 
 enum-known-f-2 : tie.Need-enum-known-f-2
 enum-known-f-2 c = search needs
@@ -29,8 +26,8 @@ enum-known-f-2 c = search needs
 insert-cell-requires : tie.Need-insert-cell-requires
 insert-cell-requires c κs =
     let s = c .before .before .before .before .before .before in
-    let m = told-free (envelopeIn (s .args .k)) (entryList (s .args .c .now) (s .args .used)) (ascend-counted _ (s .pre .0 .order)) _ (sym (c .before .before .before .before .look-up .ensures) ∙ c .before .before .f2 .given .1) in
-    (s .pre .0 .laid, omega (arith, m .place, lead-le (before (envelopeIn (s .args .k))) (entryList (s .args .c .now) (s .args .used)), used-is (s .args .c .now) (s .args .used) (s .args .len) (s .pre .0 .laid)), s .pre .1)
+    let q = sym (c .before .before .before .before .look-up .ensures) ∙ c .before .before .f2 .given .1 in
+    (s .pre .0 .laid, free-fits (s .pre .0 .laid) (s .pre .1) counted-sorted (s .pre .0 .order) _ q, s .pre .1)
 
 same-length : tie.Need-same-length
 same-length c = search needs
@@ -38,9 +35,8 @@ same-length c = search needs
 returns : tie.Need-returns
 returns c =
     let s = c .before .before .before .before .before .before .before .before in
-    let m = told-at (envelopeIn (s .args .k)) (entryList (s .args .c .now) (s .args .used)) (ascend-counted _ (s .pre .0 .order)) _ (sym (c .before .before .before .before .before .before .look-up .ensures) ∙ c .before .before .before .before .f .given .1) in
-    λ last. sent-by (s .pre .0 .laid) (s .pre .1) UnorderedNonDuplicating last _ (put-there (s .pre .0 .laid) (s .pre .1) UnorderedNonDuplicating _ counted-sorted m)
-    (c .before .count-up .result) (c .before .count-up .last .0) (c .before .count-up .ensures last)
+    let q = sym (c .before .before .before .before .before .before .look-up .ensures) ∙ c .before .before .before .before .f .given .1 in
+    sent-again (s .pre .0 .laid) (s .pre .1) (s .pre .0 .order) _ q (c .before .count-up .ensures)
 
 same-length-2 : tie.Need-same-length-2
 same-length-2 c = search needs
@@ -48,9 +44,8 @@ same-length-2 c = search needs
 returns-2 : tie.Need-returns-2
 returns-2 c =
     let s = c .before .before .before .before .before .before .before .before in
-    let m = told-free (envelopeIn (s .args .k)) (entryList (s .args .c .now) (s .args .used)) (ascend-counted _ (s .pre .0 .order)) _ (sym (c .before .before .before .before .before .before .look-up .ensures) ∙ c .before .before .before .before .f2 .given .1) in
-    λ last. sent-by (s .pre .0 .laid) (s .pre .1) UnorderedNonDuplicating last _ (put-missing (s .pre .0 .laid) (s .pre .1) UnorderedNonDuplicating _ counted-sorted m)
-    (c .before .insert-cell .result) (c .before .insert-cell .last .0) (c .before .insert-cell .ensures UnorderedNonDuplicating last)
+    let q = sym (c .before .before .before .before .before .before .look-up .ensures) ∙ c .before .before .before .before .f2 .given .1 in
+    sent-free (s .pre .0 .laid) (s .pre .1) counted-sorted (s .pre .0 .order) _ q (c .before .insert-cell .ensures)
 
 pub send-counted-spec : {M : Type 1} → statement M
 send-counted-spec =

@@ -1,6 +1,7 @@
+-- The search by halves finds the end of the flow, since the flows ascend.
+-- Assumes nothing.
 use Rattle.net_rows.proofs.Laws.{lead-fits}
-use Rattle.net_rows.proofs.ByKind.{once-flow, flow-is, put-flow, sent-by}
-use Rattle.types.specs.declared.Kind.the-variants.{Ordered}
+use Rattle.net_rows.proofs.ByKind.{once-flow, sent-flow}
 use Rattle.net_slots.specs.declared.Look.the-variants.{UpToFlow}
 use Rattle.net_slots.specs.Search.{passesOf}
 use borrow.Author.Needs.{needs}
@@ -8,10 +9,15 @@ use Rattle.net_rows.proofs.send_ordered.Statement.{statement}
 use Rattle.net_rows.proofs.send_ordered.Tie as tie
 
 halve-requires : tie.Need-halve-requires
-halve-requires c κs = let s = c .before in (s .pre .0 .laid .fit, once-flow (s .pre .0 .laid) (s .pre .1) (s .pre .0 .order))
+halve-requires c κs =
+    let s = c .before in
+    (s .pre .0 .laid .fit, once-flow (s .pre .0 .laid) (s .pre .1) (s .pre .0 .order))
 
 insert-cell-requires : tie.Need-insert-cell-requires
-insert-cell-requires c κs = let s = c .before .before .before in (s .pre .0 .laid, lead-fits (s .pre .0 .laid) (passesOf UpToFlow (s .args .k)) (c .before .halve .result) (c .before .halve .ensures), s .pre .1)
+insert-cell-requires c κs =
+    let s = c .before .before .before in
+    let w = c .before .halve in
+    (s .pre .0 .laid, lead-fits (s .pre .0 .laid) (passesOf UpToFlow (s .args .k)) (w .result) (w .ensures), s .pre .1)
 
 same-length : tie.Need-same-length
 same-length c = search needs
@@ -20,9 +26,7 @@ returns : tie.Need-returns
 returns c =
     let s = c .before .before .before .before .before in
     let w = c .before .before .before .halve in
-    λ last. sent-by (s .pre .0 .laid) (s .pre .1) Ordered last _
-    (put-flow (s .pre .0 .laid) (s .pre .1) (w .result) (flow-is (s .pre .0 .laid) (s .pre .1) (w .result) (w .ensures)))
-    (c .before .insert-cell .result) (c .before .insert-cell .last .0) (c .before .insert-cell .ensures Ordered last)
+    sent-flow (s .pre .0 .laid) (s .pre .1) (w .result) (w .ensures) (c .before .insert-cell .ensures)
 
 pub send-ordered-spec : {M : Type 1} → statement M
 send-ordered-spec = tie.close (tie.spec halve-requires insert-cell-requires same-length returns)

@@ -1,3 +1,5 @@
+-- The last copy takes the cell along. Else the count is one less, and so is that of the messages.
+-- Assumes nothing.
 use native.Mathlib.Omega.{arith}
 use Rattle.net_rows.proofs.Laws.{take-last, take-more, len-holds}
 use borrow.Author.Needs.{needs}
@@ -20,13 +22,17 @@ sub-t16 : tie.Need-sub-t16
 sub-t16 c = search needs
 
 sub-t17 : tie.Need-sub-t17
-sub-t17 c = let s = c .before .before .before .before .before in len-holds (s .pre .0) (s .args .at) (s .pre .1)
+sub-t17 c =
+    let s = c .before .before .before .before .before in
+    len-holds (s .pre .0) (s .args .at) (s .pre .1)
 
 same-length : tie.Need-same-length
 same-length c = search needs
 
 returns : tie.Need-returns
-returns c = let s = c .before .before .before .before .before in λ kind last. take-last (s .pre .0) (s .args .at) (s .pre .1) kind last (omega arith) (c .before .remove-at .last .0) (c .before .remove-at .ensures)
+returns c =
+    let s = c .before .before .before .before .before in
+    take-last (s .pre .0) (s .args .at) (s .pre .1) (omega arith) (c .before .remove-at .last .0) (c .before .remove-at .ensures)
 
 sub-c : tie.Need-sub-c
 sub-c c = search needs
@@ -41,13 +47,17 @@ index-2-c : tie.Need-index-2-c
 index-2-c c = search needs
 
 sub-t10 : tie.Need-sub-t10
-sub-t10 c = let s = c .before .before in omega (arith, len-holds (s .pre .0) (s .args .at) (s .pre .1))
+sub-t10 c =
+    let s = c .before .before in
+    omega (arith, len-holds (s .pre .0) (s .args .at) (s .pre .1))
 
 same-length-2 : tie.Need-same-length-2
 same-length-2 c = search needs
 
 returns-2 : tie.Need-returns-2
-returns-2 c = let s = c .before .before in λ kind last. take-more (s .pre .0) (s .args .at) (s .pre .1) kind last (c .if1 .left)
+returns-2 c =
+    let s = c .before .before in
+    take-more (s .pre .0) (s .args .at) (s .pre .1) (c .if1 .left)
 
 pub take-out-spec : {M : Type 1} → statement M
 take-out-spec =

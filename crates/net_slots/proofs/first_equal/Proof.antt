@@ -1,3 +1,5 @@
+-- All before i differ. Before its flow nothing is equal, and nothing after it, since the flows ascend.
+-- Assumes nothing.
 use borrow.Author.Needs.{needs}
 use native.Mathlib.Omega.{arith}
 use Prim.Native.Nat.{_≤_, _-_}
@@ -19,7 +21,9 @@ abbrev μ-loop : tie.MeasureT-loop
 μ-loop c used k i₀ i = used - i
 
 halve-requires : tie.Need-halve-requires Inv-loop μ-loop
-halve-requires c κs = (c .pre .0, once flows flows-trans (c .args .c .now) (c .args .used) (c .pre .0) (c .pre .1) (passesOf BeforeFlow (c .args .t3)) (flows-before (c .args .t3)))
+halve-requires c κs =
+    let a = c .args in
+    (c .pre .0, once flows flows-trans (a .c .now) (a .used) (c .pre .0) (c .pre .1) (passesOf BeforeFlow (a .t3)) (flows-before (a .t3)))
 
 loop-holds : tie.Need-loop-holds Inv-loop μ-loop
 loop-holds c = let s = c .before in from-flow (s .args .c .now) (s .args .used) (s .args .t3) (s .pre .0) (c .halve .result) (c .halve .ensures)
@@ -37,7 +41,8 @@ returns : tie.Need-returns Inv-loop μ-loop
 returns c =
     let s = c .before .before .before .before .before .before in
     let l = c .before .before .before .before .loop in
-    lead-first (differs (s .args .t3)) (s .args .c .now) (s .args .used) (l .i) [] (s .pre .0) (l .inv .0) (l .inv .1) (λ h. ap not (sym (c .before .same .ensures) ∙ c .if1 .taken))
+    lead-first (differs (s .args .t3)) (s .args .c .now) (s .args .used) (l .i) [] (s .pre .0) (l .inv .0) (l .inv .1)
+    (λ h. ap not (sym (c .before .same .ensures) ∙ c .if1 .taken))
 
 array-read-if2 : tie.Need-array-read-if2 Inv-loop μ-loop
 array-read-if2 c = search needs
@@ -50,7 +55,8 @@ returns-2 c =
     let s = c .before .before .before .before .before .before .before in
     let l = c .before .before .before .before .before .loop in
     lead-first (differs (s .args .t3)) (s .args .c .now) (s .args .used) (s .args .used) [] (s .pre .0) (omega arith)
-    (past-flow (s .args .c .now) (s .args .used) (s .args .t3) (s .pre .0) (s .pre .1) (l .i) (omega arith) (l .inv .1) (c .if2 .taken)) (λ h. absurd (omega arith))
+    (past-flow (s .args .c .now) (s .args .used) (s .args .t3) (s .pre .0) (s .pre .1) (l .i) (omega arith) (l .inv .1) (c .if2 .taken))
+    (λ h. absurd (omega arith))
 
 add-i : tie.Need-add-i Inv-loop μ-loop
 add-i c = search needs

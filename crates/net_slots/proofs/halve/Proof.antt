@@ -1,3 +1,5 @@
+-- All before low pass, and what stands at high fails. So where they meet is the first that fails.
+-- Assumes nothing.
 use borrow.Author.Needs.{needs}
 use native.Mathlib.Omega.{arith}
 use Prim.Native.Nat.{_≤_, _<_, _-_, _+_, _/_}
@@ -13,7 +15,8 @@ use Rattle.net_slots.proofs.halve.Statement.{statement}
 use Rattle.net_slots.proofs.halve.Tie as tie
 
 abbrev Inv-loop : tie.InvT-loop
-Inv-loop l c used k low₀ high₀ low high = (low ≤ high) × (high ≤ used) × Passed (passesOf l k) low c × (high < used → passesOf l k (getD c high []) ≡ false)
+Inv-loop l c used k low₀ high₀ low high =
+    (low ≤ high) × (high ≤ used) × Passed (passesOf l k) low c × (high < used → passesOf l k (getD c high []) ≡ false)
 
 abbrev μ-loop : tie.MeasureT-loop
 μ-loop l c used k low₀ high₀ low high = high - low
@@ -47,7 +50,9 @@ loop-again c =
     let q = c .before .before .before .before in
     let a = q .before .args in
     let l = q .loop in
-    (search needs, search needs, passed-to (passesOf (a .l) (a .k)) (a .used) (a .c .now) (q .before .pre .1) (l .low + (l .high - l .low) / 2) (omega arith) (sym (c .before .passes .ensures) ∙ c .if1 .taken), l .inv .3)
+    let mid = l .low + (l .high - l .low) / 2 in
+    let e = sym (c .before .passes .ensures) ∙ c .if1 .taken in
+    (search needs, search needs, passed-to (passesOf (a .l) (a .k)) (a .used) (a .c .now) (q .before .pre .1) mid (omega arith) e, l .inv .3)
 
 loop-less-2 : tie.Need-loop-less-2 Inv-loop μ-loop
 loop-less-2 c = search needs
@@ -62,7 +67,8 @@ returns c =
     let a = c .before .before .args in
     let l = c .before .loop in
     let e : l .high ≡ l .low = omega arith in
-    lead-first (passesOf (a .l) (a .k)) (a .c .now) (a .used) (l .low) [] (c .before .before .pre .0) (omega arith) (l .inv .2) (λ h. rw e at (l .inv .3 (omega arith)))
+    lead-first (passesOf (a .l) (a .k)) (a .c .now) (a .used) (l .low) [] (c .before .before .pre .0) (omega arith) (l .inv .2)
+    (λ h. rw e at (l .inv .3 (omega arith)))
 
 pub halve-spec : {M : Type 1} → statement M
 halve-spec =

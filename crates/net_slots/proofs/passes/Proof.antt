@@ -1,3 +1,5 @@
+-- Each arm knows the test.
+-- Assumes nothing.
 use borrow.Author.Needs.{needs}
 use Rattle.net_slots.proofs.passes.Statement.{statement}
 use Rattle.net_slots.proofs.passes.Tie as tie

@@ -1,7 +1,7 @@
 -- Each turn puts one more byte behind those that were read. The bits past the end are 0.
 use native.Mathlib.Omega.{arith}
-use Prim.Native.Nat.{_+_, _-_, _*_, _≤_, _<_}
-use mathlib.Core.Path.{_≡_, sym, ap, _∙_}
+use Prim.Native.Nat.{_-_, _*_, _≤_}
+use mathlib.Core.Path.{_≡_, sym}
 use lib.ListN.{length}
 use Rattle.layout.specs.Bits.{fieldAt}
 use Rattle.layout.proofs.Laws.{field-below, field-past}

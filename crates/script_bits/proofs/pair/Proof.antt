@@ -1,9 +1,7 @@
 -- Each byte is a field that is moved up by itself.
 use native.Mathlib.Omega.{arith}
-use Prim.Native.Nat.{_+_, _*_, _^_}
-use mathlib.Core.Path.{_≡_, refl}
-use lib.ListN.{getD}
-use Rattle.script_bits.proofs.Laws.{byte-raised, raised, raised-fits}
+use Prim.Native.Nat.{_+_, _*_}
+use Rattle.script_bits.proofs.Laws.{pair-is, raised-fits}
 use borrow.Author.Needs.{needs}
 use Rattle.script_bits.proofs.pair.Statement.{statement}
 use Rattle.script_bits.proofs.pair.Tie as tie
@@ -35,22 +33,17 @@ shl-result-2 c = search needs
 add-result-3 : tie.Need-add-result-3
 add-result-3 c =
     let g = c .before .before .args in
-    let xs = g .s .now in
     let a = c .before .shared-slice-known .given (g .i) in
     let b = c .shared-slice-known2 .given (g .i + 1) in
-    let x = byte-raised xs (8 * g .i) (g .i) (g .k + 8) refl (omega (arith, a)) (omega arith) in
-    let y = byte-raised xs (8 * g .i + 8) (g .i + 1) (g .k) (omega arith) (omega (arith, b)) (omega arith) in
-    omega (arith, raised xs (8 * g .i) (8 * g .i + 8) 8 (g .k) _ _ refl x y, raised-fits xs (8 * g .i) 16 (g .k) (omega arith))
+    let e = pair-is (g .s .now) (g .i) (g .k) (omega (arith, a)) (omega (arith, b)) (omega arith) in
+    omega (arith, raised-fits (g .s .now) (8 * g .i) 16 (g .k) (omega arith))
 
 returns : tie.Need-returns
 returns c =
     let g = c .before .before .args in
-    let xs = g .s .now in
     let a = c .before .shared-slice-known .given (g .i) in
     let b = c .shared-slice-known2 .given (g .i + 1) in
-    let x = byte-raised xs (8 * g .i) (g .i) (g .k + 8) refl (omega (arith, a)) (omega arith) in
-    let y = byte-raised xs (8 * g .i + 8) (g .i + 1) (g .k) (omega arith) (omega (arith, b)) (omega arith) in
-    raised xs (8 * g .i) (8 * g .i + 8) 8 (g .k) _ _ refl x y
+    pair-is (g .s .now) (g .i) (g .k) (omega (arith, a)) (omega (arith, b)) (omega arith)
 
 pub pair-spec : {M : Type 1} → statement M
 pair-spec =

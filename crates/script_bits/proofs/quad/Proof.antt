@@ -1,7 +1,6 @@
 -- The first half is moved up by its own length more.
 use native.Mathlib.Omega.{arith}
-use Prim.Native.Nat.{_+_, _*_, _^_}
-use mathlib.Core.Path.{_≡_}
+use Prim.Native.Nat.{_+_, _*_}
 use Rattle.script_bits.proofs.Laws.{raised, raised-fits}
 use borrow.Author.Needs.{needs}
 use Rattle.script_bits.proofs.quad.Statement.{statement}
@@ -22,7 +21,8 @@ pair-requires-2 c κs = search needs
 add-result : tie.Need-add-result
 add-result c =
     let a = c .before .before .before .args in
-    omega (arith, raised (a .s .now) (8 * a .i) (8 * (a .i + 2)) 16 (a .k) _ _ (omega arith) (c .before .pair .ensures) (c .pair2 .ensures), raised-fits (a .s .now) (8 * a .i) 32 (a .k) (omega arith))
+    let e = raised (a .s .now) (8 * a .i) (8 * (a .i + 2)) 16 (a .k) _ _ (omega arith) (c .before .pair .ensures) (c .pair2 .ensures) in
+    omega (arith, raised-fits (a .s .now) (8 * a .i) 32 (a .k) (omega arith))
 
 returns : tie.Need-returns
 returns c =

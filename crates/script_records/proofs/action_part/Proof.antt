@@ -1,8 +1,6 @@
 -- The kind picks the fields that follow it: an envelope, an id, an id and a timer, or nothing. A kind that the format does not have is stuck.
 use native.Mathlib.Omega.{arith}
-use Prim.Native.Nat.{_<_}
-use mathlib.Core.Path.{_≡_, refl, sym, ap, _∙_}
-use mathlib.Core.Bool.{true, false}
+use mathlib.Core.Path.{sym, ap, _∙_}
 use Rattle.script_records.specs.Views.{actionPart, withEnvelope}
 use Rattle.script_records.proofs.Laws.{no-kind, kind-past, envelope-kind, end-kind, timeout-kind, crash-kind, recover-kind, with-end}
 use borrow.Author.Needs.{needs}
@@ -51,14 +49,16 @@ returns-3 c =
 returns-4 : tie.Need-returns-4
 returns-4 c =
     let a = c .before .before .before .before .before .args in (
-      λ xs h. sym (ap actionPart (crash-kind xs (a .f) (c .before .before .before .before .cut8 .ensures xs h) (c .before .before .if1 .left) (omega arith) (c .cut84 .ensures xs h))),
+      λ xs h. sym (ap actionPart (crash-kind xs (a .f) (c .before .before .before .before .cut8 .ensures xs h) (c .before .before .if1 .left)
+          (omega arith) (c .cut84 .ensures xs h))),
       search needs,
     )
 
 returns-5 : tie.Need-returns-5
 returns-5 c =
     let a = c .before .before .before .before .before .args in (
-      λ xs h. sym (ap actionPart (recover-kind xs (a .f) (c .before .before .before .before .cut8 .ensures xs h) (c .before .before .if1 .left) (omega arith) (c .cut85 .ensures xs h))),
+      λ xs h. sym (ap actionPart (recover-kind xs (a .f) (c .before .before .before .before .cut8 .ensures xs h) (c .before .before .if1 .left)
+          (omega arith) (c .cut85 .ensures xs h))),
       search needs,
     )
 
@@ -67,14 +67,16 @@ returns-6 c =
     let a = c .before .before .before .before .before .before .before .args in
     let e = c .before .envelope-part in (
       λ xs h. c .with-envelope .ensures ∙ ap (withEnvelope _) (e .ensures .0 xs h)
-          ∙ sym (envelope-kind xs (a .f) (c .before .before .before .before .before .before .cut8 .ensures xs h) (c .before .before .before .before .if1 .left) (omega arith) (omega arith)),
+          ∙ sym (envelope-kind xs (a .f) (c .before .before .before .before .before .before .cut8 .ensures xs h) (c .before .before .before .before .if1 .left)
+          (omega arith) (omega arith)),
       with-end _ (e .result) (c .with-envelope .ensures) (e .ensures .1),
     )
 
 returns-7 : tie.Need-returns-7
 returns-7 c =
     let a = c .before .before .before .before .before .args in
-    (λ xs h. sym (ap actionPart (kind-past xs (a .f) (c .before .before .before .before .cut8 .ensures xs h) (c .before .before .if1 .left) (omega arith))), search needs)
+    let l = c .before .before .if1 .left in
+    (λ xs h. sym (ap actionPart (kind-past xs (a .f) (c .before .before .before .before .cut8 .ensures xs h) l (omega arith))), search needs)
 
 pub action-part-spec : {M : Type 1} → statement M
 action-part-spec =

@@ -1,6 +1,6 @@
 -- The bytes that the bits take are there, and what pads the last of them is cut out of the words.
 use native.Mathlib.Omega.{arith}
-use mathlib.Core.Path.{_≡_, sym, ap, _∙_}
+use mathlib.Core.Path.{sym, ap, _∙_}
 use mathlib.Core.Bool.{Bool}
 use lib.ListN.{length, drop, length-drop}
 use borrow.Author.Tests.{eq-eqb, ne-eqb}
@@ -42,7 +42,8 @@ returns-2 c =
     let l = ap length (c .before .before .before .from .ensures) in
     let xs = drop (a .at) (a .script .now) in
     ap (λ (b : Bool). endingOf (a .at) b (a .used))
-    (sym (whole-by xs (a .used) (omega arith) (c .before .cut .ensures .0 xs (c .before .before .before .before .before .pre .1)) ∙ eq-eqb _ 0 (c .if2 .taken)))
+    (sym (whole-by xs (a .used) (omega arith) (c .before .cut .ensures .0 xs (c .before .before .before .before .before .pre .1))
+    ∙ eq-eqb _ 0 (c .if2 .taken)))
 
 returns-3 : tie.Need-returns-3
 returns-3 c =
@@ -50,7 +51,8 @@ returns-3 c =
     let l = ap length (c .before .before .before .from .ensures) in
     let xs = drop (a .at) (a .script .now) in
     ap (λ (b : Bool). endingOf (a .at) b (a .used))
-    (sym (whole-by xs (a .used) (omega arith) (c .before .cut .ensures .0 xs (c .before .before .before .before .before .pre .1)) ∙ ne-eqb _ 0 (c .if2 .left)))
+    (sym (whole-by xs (a .used) (omega arith) (c .before .cut .ensures .0 xs (c .before .before .before .before .before .pre .1))
+    ∙ ne-eqb _ 0 (c .if2 .left)))
 
 pub end-in-spec : {M : Type 1} → statement M
 end-in-spec =

@@ -1,9 +1,7 @@
 -- Source and destination stand before the message; where that is stuck, so is the envelope.
 use native.Mathlib.Omega.{arith}
-use mathlib.Core.Path.{_≡_, refl, sym, ap, _∙_}
-use Rattle.layout.specs.Form.{reached, stuck, follow}
-use Rattle.rules.specs.Script.{messageForm}
-use Rattle.script_records.specs.Views.{messagePart, messageEnd, envelopePart}
+use mathlib.Core.Path.{refl, sym, ap, _∙_}
+use Rattle.script_records.specs.Views.{messageEnd, envelopePart}
 use Rattle.script_records.proofs.Laws.{envelope-at, no-envelope, message-found, message-stuck}
 use borrow.Author.Needs.{needs}
 use Rattle.script_records.proofs.envelope_part.Statement.{statement}

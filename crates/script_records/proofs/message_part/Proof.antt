@@ -1,6 +1,6 @@
 -- The tag picks what follows it. There is no third tag.
 use native.Mathlib.Omega.{arith}
-use mathlib.Core.Path.{refl, sym, ap, _∙_}
+use mathlib.Core.Path.{refl, sym, ap}
 use Rattle.script_records.specs.Views.{messagePart}
 use Rattle.script_records.proofs.Laws.{deliver-at, ack-at, no-message}
 use borrow.Author.Needs.{needs}

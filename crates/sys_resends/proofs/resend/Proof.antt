@@ -109,10 +109,12 @@ loop-again c =
     let g : 0 < l .k = omega arith in
     let q = next-one (a .pend .now) (a .n) (s .pre .1) (l .i) h in
     let x = c .before .before .before .resend-one in
-    let b : l .i + 1 ≤ a .n = omega arith in
-    (b, along-step (a .kind) (a .me) (take (a .limit) (resent ps)) (a .c .now) (a .used) (a .timers) (l .c) (l .u) (l .l) (l .k) (drop (l .i) ps) (l .inv .1) g
-    (pendingIn (getD (a .pend .now) (l .i) [])) (drop (l .i + 1) ps) q (x .result) (x .last .0) (x .ensures)
-    (sym (c .before .is-done .ensures) ∙ not-false _ (c .if2 .left)))
+    let b : l .i + 1 ≤ a .n = omega arith in (
+      b,
+      along-step (a .kind) (a .me) (take (a .limit) (resent ps)) (a .c .now) (a .used) (a .timers) (l .c) (l .u) (l .l) (l .k) (drop (l .i) ps) (l .inv .1) g
+          (pendingIn (getD (a .pend .now) (l .i) [])) (drop (l .i + 1) ps) q (x .result) (x .last .0) (x .ensures)
+          (sym (c .before .is-done .ensures) ∙ not-false _ (c .if2 .left)),
+    )
 
 same-length-3 : tie.Need-same-length-3 Inv-loop μ-loop
 same-length-3 c = search needs

@@ -37,7 +37,8 @@ returns-2 c =
     let a = s .args in
     let f = c .before .before .before .before .before .first-match in
     let h : f .result < a .rules = omega (arith, c .before .before .before .before .if1 .left) in
-    one-ignores (a .state) (a .timer) (a .table .now) (a .rules) (f .result) (s .pre .0) (f .ensures) h (sym (c .before .is-ignored .ensures nobody (a .timer)) ∙ c .if2 .taken)
+    one-ignores (a .state) (a .timer) (a .table .now) (a .rules) (f .result) (s .pre .0) (f .ensures) h
+    (sym (c .before .is-ignored .ensures nobody (a .timer)) ∙ c .if2 .taken)
 
 returns-3 : tie.Need-returns-3
 returns-3 c =
@@ -45,7 +46,8 @@ returns-3 c =
     let a = s .args in
     let f = c .before .before .before .before .before .first-match in
     let h : f .result < a .rules = omega (arith, c .before .before .before .before .if1 .left) in
-    one-decides (a .state) (a .timer) (a .table .now) (a .rules) (f .result) (s .pre .0) (f .ensures) h (sym (c .before .is-ignored .ensures nobody (a .timer)) ∙ c .if2 .left)
+    one-decides (a .state) (a .timer) (a .table .now) (a .rules) (f .result) (s .pre .0) (f .ensures) h
+    (sym (c .before .is-ignored .ensures nobody (a .timer)) ∙ c .if2 .left)
 
 pub decides-spec : {M : Type 1} → statement M
 decides-spec =

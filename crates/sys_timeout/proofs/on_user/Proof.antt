@@ -14,17 +14,17 @@ use borrow.Author.Needs.{needs}
 use Rattle.sys_timeout.proofs.on_user.Statement.{statement}
 use Rattle.sys_timeout.proofs.on_user.Tie as tie
 
-element-copy-out-state : tie.Need-element-copy-out-state
-element-copy-out-state c = search needs
+element-copy-out-set : tie.Need-element-copy-out-set
+element-copy-out-set c = search needs
 
-element-copy-out-by-rule : tie.Need-element-copy-out-by-rule
-element-copy-out-by-rule c = search needs
-
-cast-by-rule : tie.Need-cast-by-rule
-cast-by-rule c =
-    let s = c .before .before in
+cast-set : tie.Need-cast-set
+cast-set c =
+    let s = c .before in
     let z = timers-small (s .args .live .now) (s .args .pend .now) (s .pre .0 .live) in
     search needs
+
+element-copy-out-state : tie.Need-element-copy-out-state
+element-copy-out-state c = search needs
 
 cancel-requires : tie.Need-cancel-requires
 cancel-requires c κs = search needs
@@ -87,9 +87,9 @@ pub on-user-spec : {M : Type 1} → statement M
 on-user-spec =
     tie.close
     (tie.spec
+    element-copy-out-set
+    cast-set
     element-copy-out-state
-    element-copy-out-by-rule
-    cast-by-rule
     cancel-requires
     decides-requires
     cast-live

@@ -43,7 +43,8 @@ returns-2 c =
 on-network-requires : tie.Need-on-network-requires
 on-network-requires c κs =
     let s = c .before .before .before .before .before .before .before .before in
-    (s .pre .0 .net, s .pre .0 .room, s .pre .0 .live, rw (sym (c .before .before .before .if3 .taken)) (sym (c .before .before .before .before .before .is-set .ensures) ∙ not-false _ (c .before .before .before .before .if2 .left)))
+    let e = sym (c .before .before .before .before .before .is-set .ensures) ∙ not-false _ (c .before .before .before .before .if2 .left) in
+    (s .pre .0 .net, s .pre .0 .room, s .pre .0 .live, rw (sym (c .before .before .before .if3 .taken)) e)
 
 returns-3 : tie.Need-returns-3
 returns-3 c =
@@ -60,7 +61,8 @@ on-user-requires c κs =
     let s = c .before .before .before .before .before .before .before .before .before .before in
     let near : s .args .timer ≤ network = omega (arith, c .before .before .before .before .before .before .before .before .before .if1 .left) in
     let h : s .args .timer < network = omega (arith, c .before .before .before .before .before .if3 .left) in
-    (s .pre .0, s .pre .1, h, sym (c .before .before .before .before .before .before .before .is-set .ensures) ∙ not-false _ (c .before .before .before .before .before .before .if2 .left))
+    let b = c .before .before .before .before .before .before in
+    (s .pre .0, s .pre .1, h, sym (b .before .is-set .ensures) ∙ not-false _ (b .if2 .left))
 
 returns-4 : tie.Need-returns-4
 returns-4 c = c .on-user .ensures (c .before .before .before .before .before .before .before .before .before .before .before .args .count)

@@ -6,8 +6,8 @@ use borrow.Author.Needs.{needs}
 use Rattle.sys_wake.proofs.load.Statement.{statement}
 use Rattle.sys_wake.proofs.load.Tie as tie
 
-element-copy-out-mark : tie.Need-element-copy-out-mark
-element-copy-out-mark c = search needs
+element-copy-out-crashed : tie.Need-element-copy-out-crashed
+element-copy-out-crashed c = search needs
 
 element-copy-out-timers : tie.Need-element-copy-out-timers
 element-copy-out-timers c = search needs
@@ -25,7 +25,8 @@ returns : tie.Need-returns
 returns c =
     let s = c .before .before .before .before .before .before .before in
     let a = s .args in
-    rw (c .put-marks .ensures) (loaded-fresh (a .live .now) (a .kept .now) (a .pend .now) (a .stored .now) (s .pre .0) (s .pre .1) (c .before .before .before .if1 .taken))
+    rw (c .put-marks .ensures)
+    (loaded-fresh (a .live .now) (a .kept .now) (a .pend .now) (a .stored .now) (s .pre .0) (s .pre .1) (c .before .before .before .if1 .taken))
 
 put-marks-requires-2 : tie.Need-put-marks-requires-2
 put-marks-requires-2 c κs = search needs
@@ -50,7 +51,7 @@ pub load-spec : {M : Type 1} → statement M
 load-spec =
     tie.close
     (tie.spec
-    element-copy-out-mark
+    element-copy-out-crashed
     element-copy-out-timers
     element-copy-out-if1
     element-write-live

@@ -14,7 +14,8 @@ returns c =
     let s = c .before .before in
     let a = s .args in
     let x : Rows = rowsOf (a .c .now) (a .live .now) (a .pend .now) (a .kept .now) (a .stored .now) in
-    stepped-live (a .count) (a .i) (rulesIn (a .table .now) (a .rules)) (a .kind) (a .used) (a .len) x (s .pre .0) (is-live _ (c .if1 .taken))
+    let rs = rulesIn (a .table .now) (a .rules) in
+    stepped-live (a .count) (a .i) rs (a .kind) (a .used) (a .len) x (s .pre .0) (is-live _ (c .if1 .taken))
 
 element-write-live : tie.Need-element-write-live
 element-write-live c = search needs
@@ -24,19 +25,23 @@ wake-requires c κs =
     let s = c .before .before .before .before .before .before .before in
     let a = s .args in
     let x : Rows = rowsOf (a .c .now) (a .live .now) (a .pend .now) (a .kept .now) (a .stored .now) in
-    (bare-fine (a .count) (a .i) (rulesIn (a .table .now) (a .rules)) (a .kind) (a .used) (a .len) x (s .pre .0), s .pre .1)
+    let rs = rulesIn (a .table .now) (a .rules) in
+    (bare-fine (a .count) (a .i) rs (a .kind) (a .used) (a .len) x (s .pre .0), s .pre .1)
 
 is-done-requires : tie.Need-is-done-requires
 is-done-requires c κs = search needs
 
 returns-2 : tie.Need-returns-2
 returns-2 c =
-    let s = c .before .before .before .before .before .before .before .before .before .before in
+    let w = c .before .before in
+    let f = w .before .before .before .before .before .before in
+    let s = f .before .before in
     let a = s .args in
     let x : Rows = rowsOf (a .c .now) (a .live .now) (a .pend .now) (a .kept .now) (a .stored .now) in
-    let z : Rows = rowsOf (c .before .before .wake .last .0) (c .before .before .wake .last .1 .0) (c .before .before .wake .last .1 .1 .0) (c .before .before .wake .last .1 .1 .1 .0)
-        (c .before .before .wake .last .1 .1 .1 .1 .0) in
-    stepped-done (a .count) (a .i) (rulesIn (a .table .now) (a .rules)) (a .kind) (a .used) (a .len) x (s .pre .0) (is-crashed _ (c .before .before .before .before .before .before .before .before .if1 .left)) (c .before .before .wake .result) z (c .before .before .wake .ensures (a .count))
+    let rs = rulesIn (a .table .now) (a .rules) in
+    let l = w .wake .last in
+    let z : Rows = rowsOf (l .0) (l .1 .0) (l .1 .1 .0) (l .1 .1 .1 .0) (l .1 .1 .1 .1 .0) in
+    stepped-done (a .count) (a .i) rs (a .kind) (a .used) (a .len) x (s .pre .0) (is-crashed _ (f .if1 .left)) (w .wake .result) z (w .wake .ensures (a .count))
     (sym (c .before .is-done .ensures) ∙ c .if2 .taken)
 
 element-write-live-2 : tie.Need-element-write-live-2
@@ -44,12 +49,15 @@ element-write-live-2 c = search needs
 
 returns-3 : tie.Need-returns-3
 returns-3 c =
-    let s = c .before .before .before .before .before .before .before .before .before .before in
+    let w = c .before .before in
+    let f = w .before .before .before .before .before .before in
+    let s = f .before .before in
     let a = s .args in
     let x : Rows = rowsOf (a .c .now) (a .live .now) (a .pend .now) (a .kept .now) (a .stored .now) in
-    let z : Rows = rowsOf (c .before .before .wake .last .0) (c .before .before .wake .last .1 .0) (c .before .before .wake .last .1 .1 .0) (c .before .before .wake .last .1 .1 .1 .0)
-        (c .before .before .wake .last .1 .1 .1 .1 .0) in
-    stepped-back (a .count) (a .i) (rulesIn (a .table .now) (a .rules)) (a .kind) (a .used) (a .len) x (s .pre .0) (is-crashed _ (c .before .before .before .before .before .before .before .before .if1 .left)) (c .before .before .wake .result) z (c .before .before .wake .ensures (a .count))
+    let rs = rulesIn (a .table .now) (a .rules) in
+    let l = w .wake .last in
+    let z : Rows = rowsOf (l .0) (l .1 .0) (l .1 .1 .0) (l .1 .1 .1 .0) (l .1 .1 .1 .1 .0) in
+    stepped-back (a .count) (a .i) rs (a .kind) (a .used) (a .len) x (s .pre .0) (is-crashed _ (f .if1 .left)) (w .wake .result) z (w .wake .ensures (a .count))
     (sym (c .before .is-done .ensures) ∙ c .if2 .left)
 
 pub recover-spec : {M : Type 1} → statement M

@@ -3,7 +3,7 @@ use Rattle.link_tables.specs.Rows.{rulesIn}
 use Rattle.sys_moves.specs.Views.{Rows, rowsOf}
 use Rattle.sys_moves.proofs.Taken.{timers-small}
 use Rattle.sys_wake.specs.Starts.{savedIn}
-use Rattle.sys_wake.proofs.Loads.{starts-by}
+use Rattle.sys_wake.proofs.Loads.{starts-by, few-events}
 use Rattle.sys_wake.proofs.Wakes.{woken-by}
 use borrow.Author.Needs.{needs}
 use Rattle.sys_wake.proofs.start.Statement.{statement}
@@ -13,16 +13,26 @@ element-copy-out-with-network : tie.Need-element-copy-out-with-network
 element-copy-out-with-network c = search needs
 
 cast-with-network : tie.Need-cast-with-network
-cast-with-network c = let s = c .before in let z = timers-small (s .args .live .now) (s .args .pend .now) (s .pre .0 .live) in search needs
+cast-with-network c =
+    let s = c .before in
+    let z = timers-small (s .args .live .now) (s .args .pend .now) (s .pre .0 .live) in
+    search needs
 
 with-network-requires : tie.Need-with-network-requires
 with-network-requires c κs = search needs
+
+start-event-requires : tie.Need-start-event-requires
+start-event-requires c κs = search needs
 
 start-value-requires : tie.Need-start-value-requires
 start-value-requires c κs = search needs
 
 start-row-requires : tie.Need-start-row-requires
-start-row-requires c κs = search needs
+start-row-requires c κs =
+    let s = c .before .before .before .before .before .before .before .before .before in
+    let e = c .before .before .before .before .start-event .ensures in
+    let z = few-events (savedIn (s .args .live .now)) in
+    (s .pre .1, omega arith)
 
 array-read-state : tie.Need-array-read-state
 array-read-state c = search needs
@@ -32,26 +42,32 @@ slice-aggregate-by-rule c = search needs
 
 by-rule-requires : tie.Need-by-rule-requires
 by-rule-requires c κs =
-    let s = c .before .before .before .before .before .before .before .before .before .before .before .before .before .before .before in
+    let r = c .before .before .before .before .before .before in
+    let v = r .before .before in
+    let e = v .before .before .before in
+    let n = e .before .before .before in
+    let s = n .before .before in
     let a = s .args in
-    let x : Rows = rowsOf (a .c .now) (a .live .now) (a .pend .now) (a .kept .now) (a .stored .now) in
-    let st = starts-by (a .table .now) (a .rules) (s .pre .1) (savedIn (a .live .now)) (c .before .before .before .before .before .before .start-row .result) (c .before .before .before .before .before .before .before .before .before .before .start-value .result)
-        (c .before .before .before .before .before .before .start-row .ensures) (c .before .before .before .before .before .before .before .before .before .before .start-value .ensures) in
+    let st = starts-by (a .table .now) (a .rules) (s .pre .1) (savedIn (a .live .now)) (e .start-event .result) (v .start-value .result)
+    (r .start-row .result) (e .start-event .ensures) (v .start-value .ensures) (r .start-row .ensures) in
     let z = st .laid .next in
     (s .pre .0, st .laid, omega arith)
 
 returns : tie.Need-returns
 returns c =
-    let s = c .before .before .before .before .before .before .before .before .before .before .before .before .before .before .before .before in
+    let r = c .before .before .before .before .before .before .before in
+    let v = r .before .before in
+    let e = v .before .before .before in
+    let n = e .before .before .before in
+    let s = n .before .before in
     let a = s .args in
     let x : Rows = rowsOf (a .c .now) (a .live .now) (a .pend .now) (a .kept .now) (a .stored .now) in
-    let st = starts-by (a .table .now) (a .rules) (s .pre .1) (savedIn (a .live .now)) (c .before .before .before .before .before .before .before .start-row .result) (c .before .before .before .before .before .before .before .before .before .before .before .start-value .result)
-        (c .before .before .before .before .before .before .before .start-row .ensures) (c .before .before .before .before .before .before .before .before .before .before .before .start-value .ensures) in
-    let z : Rows = rowsOf (c .by-rule .last .0) (c .by-rule .last .1 .0) (c .by-rule .last .1 .1 .0) (c .by-rule .last .1 .1 .1 .0)
-        (c .by-rule .last .1 .1 .1 .1 .0) in
-    λ count. woken-by (a .me) (a .kind) (a .used) (a .len) (rulesIn (a .table .now) (a .rules)) x (c .before .before .before .before .before .before .before .before .before .before .before .before .before .before .with-network .result)
-        (c .before .before .before .before .before .before .before .before .before .before .before .before .before .before .with-network .ensures) (s .pre .2) (c .before .before .before .before .before .before .before .start-row .result) (c .before .before .before .before .before .before .before .before .before .before .before .start-value .result) st
-        count (c .by-rule .result) z (c .by-rule .ensures)
+    let st = starts-by (a .table .now) (a .rules) (s .pre .1) (savedIn (a .live .now)) (e .start-event .result) (v .start-value .result)
+    (r .start-row .result) (e .start-event .ensures) (v .start-value .ensures) (r .start-row .ensures) in
+    let l = c .by-rule .last in
+    let z : Rows = rowsOf (l .0) (l .1 .0) (l .1 .1 .0) (l .1 .1 .1 .0) (l .1 .1 .1 .1 .0) in
+    λ count. woken-by (a .me) (a .kind) (a .used) (a .len) (rulesIn (a .table .now) (a .rules)) x (n .with-network .result) (n .with-network .ensures)
+    (s .pre .2) (r .start-row .result) (v .start-value .result) st count (c .by-rule .result) z (c .by-rule .ensures)
 
 pub start-spec : {M : Type 1} → statement M
 start-spec =
@@ -60,6 +76,7 @@ start-spec =
     element-copy-out-with-network
     cast-with-network
     with-network-requires
+    start-event-requires
     start-value-requires
     start-row-requires
     array-read-state
