@@ -52,7 +52,7 @@ put-same k cs h =
     let a = set-getD (h .lives) k [] in let b = set-getD (h .pends) k [] in let c = set-getD (h .kepts) k [] in let d = set-getD (h .storeds) k [] in
     λ j. record { lives = a j; pends = b j; kepts = c j; storeds = d j }
 
-put-sized : (k : ℕ) (x : Rows) (h : Hall) → Sized h → Sized (put k x h)
+pub put-sized : (k : ℕ) (x : Rows) (h : Hall) → Sized h → Sized (put k x h)
 put-sized k x h z = record {
   lives = length-set (h .lives) k (x .live) ∙ z .lives;
   pends = length-set (h .pends) k (x .pend) ∙ z .pends;
@@ -61,14 +61,14 @@ put-sized k x h z = record {
 }
 
 module _ (k : ℕ) (x : Rows) (h : Hall) (z : Sized h) (inside : k < mostActors) where
-  put-here : rowsAt (x .cells) (put k x h) k ≡ x
+  pub put-here : rowsAt (x .cells) (put k x h) k ≡ x
   put-here =
       let n = z .lives in let o = z .pends in let p = z .kepts in let q = z .storeds in
       let a = getD-set-same (h .lives) k (x .live) [] (omega arith) in let b = getD-set-same (h .pends) k (x .pend) [] (omega arith) in
       let c = getD-set-same (h .kepts) k (x .kept) [] (omega arith) in let d = getD-set-same (h .storeds) k (x .stored) [] (omega arith) in
       λ j. record { cells = x .cells; live = a j; pend = b j; kept = c j; stored = d j }
 
-  put-beside : (i : ℕ) → (i ≡ k → ⊥) → rowsAt (x .cells) (put k x h) i ≡ rowsAt (x .cells) h i
+  pub put-beside : (i : ℕ) → (i ≡ k → ⊥) → rowsAt (x .cells) (put k x h) i ≡ rowsAt (x .cells) h i
   put-beside i o =
       let a = getD-set-other (h .lives) k i (x .live) [] o in let b = getD-set-other (h .pends) k i (x .pend) [] o in
       let c = getD-set-other (h .kepts) k i (x .kept) [] o in let d = getD-set-other (h .storeds) k i (x .stored) [] o in
