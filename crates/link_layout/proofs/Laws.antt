@@ -7,7 +7,7 @@ use mathlib.Core.Path.{_≡_, refl, sym, ap, _∙_}
 use mathlib.Core.Bool.{true}
 use mathlib.Core.List.{List, [], _∷_, _++_, map}
 use lib.ListN.{length, take, drop, getD, set, length-map, length-take}
-use lib.Seq.{take-suc, take-at, length-take-le}
+use lib.Seq.{take-suc, length-take-le}
 use borrow.Author.Tests.{leb-true}
 use Rattle.lists.specs.Lists.{pad}
 use Rattle.lists.proofs.Members.{every-cons}
@@ -23,8 +23,8 @@ use Rattle.link_durable.specs.declared.Taken.{Taken}
 use Rattle.link_durable.specs.declared.Durable.{Durable}
 use Rattle.link_durable.specs.Views.{zeroPending, pendingsOf, takenList, takenAs, durableView, durableAs, pendingsLaid, takenLaid, durableLaid}
 use Rattle.link_durable.proofs.Containers.{durable-parts}
-use Rattle.link_rows.specs.Rows.{rowSize, pendingIn, numberIn, storageIn, durableIn, Sendable, HeadLaid}
-use Rattle.link_layout.specs.Rows.{recordOf, noRecord, recordsOf, wordOf, takenOf, savesOf, valueOf, rowOf}
+use Rattle.link_rows.specs.Rows.{rowSize, pendingIn, numberIn, storageIn, durableIn}
+use Rattle.link_layout.specs.Rows.{wordOf, takenOf, savesOf, valueOf, rowOf}
 
 map-snoc : {A B : Type 0} (f : A → B) (l : List A) (a : A) → map f (l ++ a ∷ []) ≡ map f l ++ f a ∷ []
 map-snoc f [] a = refl

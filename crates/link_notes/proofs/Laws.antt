@@ -1,9 +1,9 @@
 -- Inner commands noted one by one.
 -- Assumes nothing.
-use Prim.Native.Nat.{ℕ, zero, suc, _+_, _≤_}
+use Prim.Native.Nat.{ℕ, _+_}
 use native.Mathlib.Omega.{arith}
 use mathlib.Core.Path.{_≡_, refl, sym, ap, _∙_}
-use mathlib.Core.List.{List, [], _∷_, _++_}
+use mathlib.Core.List.{List, [], _∷_}
 use lib.ListN.{drop, getD}
 use Rattle.types.specs.declared.Id.{Id}
 use Rattle.types.specs.declared.Payload.{Payload}

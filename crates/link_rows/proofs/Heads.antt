@@ -3,9 +3,9 @@
 use Prim.Native.Nat.{ℕ, zero, suc, _+_, _-_, _≤_, _<_}
 use native.Mathlib.Omega.{arith}
 use native.Mathlib.Numerals.{add-one}
-use mathlib.Core.Path.{_≡_, refl, sym, ap, _∙_}
+use mathlib.Core.Path.{_≡_, sym, ap, _∙_}
 use mathlib.Core.List.{List, [], _∷_, _++_}
-use lib.ListN.{length, getD, set, take, length-set}
+use lib.ListN.{length, getD, set, take}
 use lib.Seq.{getD-set-same, getD-set-other, getD-take, take-suc, take-suc-set}
 use borrow.Author.Count.{below-more}
 use Rattle.lists.specs.Lists.{del}
@@ -15,7 +15,7 @@ use Rattle.link_rows.specs.Rows.{rowSize, Sendable, HeadLaid}
 pub sendable-same : (p q : List (List ℕ)) (n : ℕ) → take n q ≡ take n p → Sendable p n → Sendable q n
 sendable-same p q n e fit =
     let at : (i : ℕ) → i < n → getD q i [] ≡ getD p i [] =
-        λ i h. sym (getD-take n q i [] h) ∙ ap (λ (l : List (List ℕ)). getD l i []) e ∙ getD-take n p i [] h in
+    λ i h. sym (getD-take n q i [] h) ∙ ap (λ (l : List (List ℕ)). getD l i []) e ∙ getD-take n p i [] h in
     record {
       dst = λ i h. let z = ap (λ (r : List ℕ). getD r 1 0) (at i h) in let y = fit .dst i h in omega arith;
       payload = λ i h. let z = ap (λ (r : List ℕ). getD r 2 0) (at i h) in let y = fit .payload i h in omega arith;
@@ -70,7 +70,7 @@ module _ (p q : List (List ℕ)) (n at : ℕ) (some : 0 < n) (e : take (n - 1) q
   word-less : (k most : ℕ) → ((i : ℕ) → i < n → getD (getD p i []) k 0 < most) → (i : ℕ) → i < n - 1 → getD (getD q i []) k 0 < most
   word-less k most old i h =
       let y = past (λ (r : List ℕ). getD r k 0 < most) [] at (take n p) (n - 1)
-          (λ j c. let l : j < n = omega arith in let z = ap (λ (r : List ℕ). getD r k 0) (getD-take n p j [] l) in let x = old j l in omega arith) i h in
+      (λ j c. let l : j < n = omega arith in let z = ap (λ (r : List ℕ). getD r k 0) (getD-take n p j [] l) in let x = old j l in omega arith) i h in
       let z = ap (λ (r : List ℕ). getD r k 0) (sym (getD-take (n - 1) q i [] h) ∙ ap (λ (l : List (List ℕ)). getD l i []) e) in
       omega arith
 

@@ -11,12 +11,9 @@ use mathlib.Core.Bool.{Bool, true, false, not}
 use Rattle.lists.specs.Lists.{lead, del}
 use Rattle.lists.proofs.Places.{cut-found, cut-missing}
 use lib.Seq.{getD-set-same, getD-set-other, drop-set-lt, take-suc-set, length-take-le}
-use Rattle.types.specs.declared.Number.{Number}
-use Rattle.types.specs.declared.Pending.{Pending}
-use Rattle.types.specs.declared.Storage.{Storage}
-use Rattle.rules.specs.Link.{Durable, numbered, posting, withInner, without, acked}
-use Rattle.link_rows.specs.Rows.{rowSize, pendingIn, numberIn, storageIn, durableIn, other, HeadLaid, Turned}
-use Rattle.link_rows.proofs.Heads.{head-same, head-more, head-less}
+use Rattle.rules.specs.Link.{numbered, posting, withInner, without, acked}
+use Rattle.link_rows.specs.Rows.{rowSize, pendingIn, numberIn, storageIn, durableIn, other, Turned}
+use Rattle.link_rows.proofs.Heads.{head-more, head-less}
 
 map-snoc : {A B : Type 0} (f : A → B) (l : List A) (a : A) → map f (l ++ a ∷ []) ≡ map f l ++ f a ∷ []
 map-snoc f [] a = refl
@@ -79,7 +76,7 @@ module _ (w : List ℕ) (p : List (List ℕ)) (dst payload : ℕ) (room : length
   turned-post =
       let v = set (set w 0 (getD w 0 0 + 1)) 1 (getD w 1 0 + 1) in
       let same : (k : ℕ) → (k ≡ 0 → ⊥) → (k ≡ 1 → ⊥) → getD v k 0 ≡ getD w k 0 =
-          beside w 0 1 _ _ room (omega arith) (omega arith) (λ e. omega arith) in
+      beside w 0 1 _ _ room (omega arith) (omega arith) (λ e. omega arith) in
       let e2 = same 2 (λ e. omega arith) (λ e. omega arith) in
       let e3 = same 3 (λ e. omega arith) (λ e. omega arith) in
       record {

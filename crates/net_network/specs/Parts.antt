@@ -1,4 +1,4 @@
--- What the inner functions are held to. No public contract cites this file.
+-- What cells are read back as, and the last message after a Deliver.
 -- Assumes nothing.
 use Prim.Native.Nat.{ℕ}
 use mathlib.Core.List.{List}

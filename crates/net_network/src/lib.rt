@@ -70,20 +70,29 @@ pub fn len(n: Network) -> u64
     sum
 }
 
+// The network that the used cells are.
+pub fn read_back(kind: Kind, c: &[[u64; 4]], used: usize, last: LastMessage) -> Network
+    requires { ⌜ Readable (now c) used ⌝ }
+    ensures { λ r. ⌜ r ≡ readBack kind (now (c .entry)) used last ⌝ }
+{
+    let es = entries_of(c, used);
+    Network {
+        kind: kind,
+        entries: es,
+        used: used,
+        last: last,
+    }
+}
+
 // An answer with the network that the used cells are. After a refusal they are those of the network that came.
 fn laid_back(answer: Answer, kind: Kind, c: &[[u64; 4]], used: usize, last: LastMessage) -> Sent
     requires { ⌜ Readable (now c) used ⌝ }
     ensures { λ r. ⌜ r ≡ back answer (readBack kind (now (c .entry)) used last) ⌝ }
 {
-    let es = entries_of(c, used);
+    let n = read_back(kind, c, used, last);
     Sent {
         answer: answer,
-        network: Network {
-            kind: kind,
-            entries: es,
-            used: used,
-            last: last,
-        },
+        network: n,
     }
 }
 
@@ -118,7 +127,7 @@ pub fn on_drop(n: Network, e: Envelope) -> Sent
 }
 
 // The last message after a Deliver: on the duplicating kind, where none is refused, it is this one.
-fn last_after(kind: Kind, e: Envelope, last: LastMessage) -> LastMessage
+pub fn last_after(kind: Kind, e: Envelope, last: LastMessage) -> LastMessage
     ensures { λ r. ⌜ r ≡ lastAfter kind e last ⌝ }
 {
     match kind {

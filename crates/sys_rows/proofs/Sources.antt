@@ -10,10 +10,10 @@ use lib.Seq.{getD-set-same, getD-set-other, getD-drop, drop-set-lt, drop-set-add
 use Rattle.lists.specs.Lists.{write}
 use Rattle.types.specs.Capacities.{mostActors}
 use Rattle.types.specs.declared.Number.{Number}
-use Rattle.rules.specs.Link.{Durable, untaken, noteTaken, withTaken}
+use Rattle.rules.specs.Link.{untaken, noteTaken, withTaken}
 use Rattle.link_rows.specs.Rows.{rowSize, pendingIn, numberIn, storageIn, durableIn}
 use Rattle.link_rows.proofs.Heads.{head-same}
-use Rattle.sys_rows.specs.Rows.{TailLaid, RowsLaid, Noticed}
+use Rattle.sys_rows.specs.Rows.{TailLaid, Noticed}
 use Rattle.sys_rows.proofs.Laws.{tail-at}
 
 -- Past the counted ones all are 0.
@@ -113,7 +113,7 @@ module _ (w : List ℕ) (s v : ℕ) (room : length w ≡ rowSize) (hs : s < most
       let l = long in
       let c = count-of in
       let free : (i : ℕ) → getD w 4 0 ≤ i → i < s → getD (drop 8 w) i 0 ≡ 0 = λ i a b.
-          getD-drop 8 w i 0 ∙ ap (λ (k : ℕ). getD w k 0) (eight i) ∙ sym (tail-at w (4 + i)) ∙ laid .rest i (omega arith) (omega arith) in
+      getD-drop 8 w i 0 ∙ ap (λ (k : ℕ). getD w k 0) (eight i) ∙ sym (tail-at w (4 + i)) ∙ laid .rest i (omega arith) (omega arith) in
       noticed s v w t (length-set u 4 (s + 1) ∙ length-set w (8 + s) v) (λ i g. apart i (λ z. omega arith) (λ z. omega arith))
       (apart 5 (λ z. omega arith) (λ z. omega arith))
       (ap (λ (k : ℕ). map numberIn (take k (drop 8 t))) (counted ∙ add-one s)

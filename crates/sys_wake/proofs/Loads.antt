@@ -17,7 +17,7 @@ use Rattle.rules.specs.Inner.{Reply, atStart, nobody}
 use Rattle.rules.specs.Link.{fresh, durableOf}
 use Rattle.link_tables.specs.Rows.{RowLaid, TableLaid, orders, rulesIn, startEvent, startValue}
 use Rattle.link_tables.proofs.Told.{zero-laid}
-use Rattle.link_tables.proofs.Replies.{start-is, row-replies, none-replies}
+use Rattle.link_tables.proofs.Replies.{start-replies, start-none}
 use Rattle.link_rows.specs.Rows.{rowSize, pendingIn, numberIn, storageIn, durableIn}
 use Rattle.link_rows.proofs.Heads.{sendable-same}
 use Rattle.sys_rows.specs.Rows.{storedIn, freshRow, RowsLaid, Settled}
@@ -160,10 +160,10 @@ module _ (t : List (List ℕ)) (rules : ℕ) (laid : TableLaid t rules) (s : Sto
       go : (b : Bool) → ltb at rules ≡ b → Starts (atStart (rulesIn t rules) s) (choose b (getD t at []) (replicate 16 0)) (startValue s)
       go true e =
           let h = ltb-true at rules e in
-          by _ _ (start-is (rulesIn t rules) s ∙ row-replies (startEvent s) 0 nobody (startValue s) t rules at laid refl h) (laid .rows at h) refl refl
+          by _ _ (start-replies s t rules at laid refl h) (laid .rows at h) refl refl
       go false e =
           let h = ltb-false at rules e in
-          by _ _ (start-is (rulesIn t rules) s ∙ none-replies (startEvent s) 0 nobody (startValue s) t rules at laid refl h) zero-laid refl refl
+          by _ _ (start-none s t rules at laid refl h) zero-laid refl refl
 
   pub starts-by : (event value : ℕ) (r : List ℕ) → event ≡ startEvent s → value ≡ startValue s → r ≡ startRow t rules event value
       → Starts (atStart (rulesIn t rules) s) r value

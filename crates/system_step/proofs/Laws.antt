@@ -1,53 +1,47 @@
--- The action on a part, put back: the rules' step of the whole system.
+-- The action on network and actor, put back: the rules' step of the whole system.
 -- Assumes nothing.
-use Prim.Native.Nat.{ℕ, zero, suc, _≤_, _<_}
+use Prim.Native.Nat.{ℕ, _≤_, _<_}
 use native.Mathlib.Omega.{arith}
 use mathlib.Core.Path.{_≡_, refl, sym, ap, _∙_, subst}
 use mathlib.Core.Bool.{Bool, true, false, true≢false, false≢true}
 use mathlib.Core.List.{List, [], _∷_, map}
 use lib.ListN.{length, getD, length-map}
 use lib.Dec.{ltb}
-use borrow.Author.Tests.{ltb-true}
-use Rattle.types.specs.Capacities.{mostActors}
+use borrow.Author.Tests.{ltb-true, leb-true}
+use Rattle.types.specs.Capacities.{mostActors, lastState}
 use Rattle.lists.specs.Lists.{choose, every}
-use Rattle.lists.proofs.Members.{not-true, every-cons}
+use Rattle.lists.proofs.Members.{every-cons}
 use Rattle.lists.proofs.Places.{length-pad, get-any}
 use Rattle.types.specs.declared.Id.{Id}
 use Rattle.types.specs.declared.Action.{Action}
+use Rattle.answers.specs.declared.Answer.{Answer}
 use Rattle.answers.specs.declared.Answer.the-variants.{Done}
-use Rattle.answers.specs.Answers.{answerOf}
+use Rattle.answers.specs.Answers.{answerNumber, answerOf, isDone}
+use Rattle.answers.proofs.Numbers.{number-answer}
 use Rattle.rules.specs.Outcome.{Outcome, done, refused, guard, base}
 use Rattle.rules.specs.System.{systems}
 use Rattle.rules.specs.System as rules
 use Rattle.rules.specs.Run.{step}
 use Rattle.rules.specs.WellFormed.{wellFormed}
 use Rattle.rules.proofs.Laws.{Holds}
-use Rattle.rules.proofs.Answers.{Among}
 use Rattle.rules.proofs.Formed.{step-formed}
-use Rattle.net_network.specs.declared.Network.{Network}
+use Rattle.rules.proofs.Answers.{formed-step}
+use Rattle.net_network.specs.Views.{netView}
 use Rattle.link_inner.specs.declared.Table.{Table}
-use Rattle.link_inner.specs.Views.{rulesOf}
-use Rattle.sys_actor.specs.declared.Actor.{Actor}
-use Rattle.sys_actor.specs.Views.{actorAs, zeroActor, actorLaid}
-use Rattle.answers.specs.Answers.{isDone}
-use Rattle.parts.specs.Parts.{Part, partOf, putBack, target, seat, actPart, mapped}
-use Rattle.parts.proofs.Outcomes.{guarded}
-use Rattle.parts.proofs.Laws.{set-get}
-use Rattle.parts.proofs.Acts.{act-parts}
-use Rattle.parts.proofs.Answers.{on-act}
-use Rattle.parts.proofs.Kept.{Ruled, act-ruled}
-use Rattle.steps.specs.declared.Touched.{Touched}
-use Rattle.steps.specs.Views.{partView, touchedOf}
-use Rattle.steps.proofs.Laws.{refusal}
-use Rattle.act.specs.Views.{PartReady}
-use Rattle.system.specs.declared.System.{System}
 use Rattle.link_inner.specs.Views.{zeroTable}
-use Rattle.system.specs.Views.{sysView, systemOf, SystemLaid, systemLaid, systemFine, tableFor}
-use Rattle.system.proofs.Laws.{formed-of, counted, net-ready, actor-is-laid, table-is-ok, image-laid, system-back}
-use Rattle.system_parts.specs.declared.Answered.{Answered}
+use Rattle.link_durable.specs.Views.{durableFine, storedFine}
+use Rattle.sys_actor.specs.declared.Actor.{Actor}
+use Rattle.sys_actor.specs.Views.{actorAs, actorFine, zeroActor}
+use Rattle.sys_actor.proofs.Laws.{fine-is, actor-kept}
+use Rattle.sys_seat.specs.Seat.{holding}
+use Rattle.sys_act.specs.Seats.{target, seat, seatOf}
+use Rattle.system.specs.declared.System.{System}
+use Rattle.system.specs.Views.{seated, sysView, systemOf, SystemLaid, systemLaid, systemFine, tableFor}
+use Rattle.system.proofs.Laws.{formed-of, counted, net-ready, seat-ok, actor-at, table-is-ok, image-laid, system-back}
 use Rattle.system_parts.specs.Views.{Ready, answeredOf}
-use Rattle.system_parts.proofs.Laws.{part-at, put-system, laid-at}
-use Rattle.system_step.specs.Views.{stepOf, putTouched, writtenBack}
+use Rattle.system_step.specs.declared.Touched.{Touched}
+use Rattle.system_step.specs.Views.{stepOf, Touchable, Touches, putTouched}
+use Rattle.system_step.proofs.Seats.{sized, hall, held-own, put-system}
 
 -- ---- the seat of an action
 seat-in : (n : ℕ) (a : Action) → 1 ≤ n → seat n a < n
@@ -57,10 +51,6 @@ seat-in n a h = go (ltb (target a .0) n) refl
     go : (b : Bool) → ltb (target a .0) n ≡ b → choose b (target a .0) 0 < n
     go true e = ltb-true (target a .0) n e
     go false e = omega arith
-
-seat-target : (n : ℕ) (a : Action) → ltb (target a .0) n ≡ true → seat n a ≡ target a .0
-unfolding seat choose
-seat-target n a e = rw e
 
 module _ (s : System) (r : Ready s) (a : Action) where
   abbrev m : rules.Sys
@@ -73,7 +63,7 @@ module _ (s : System) (r : Ready s) (a : Action) where
   few = let z = formed-of m (r .formed) .few in let c = counted s (r .laid) (r .formed) in omega arith
 
   abbrev i : Id
-  i = record { 0 = seat (s .count) a }
+  i = seatOf (s .count) a
 
   pub inside : seat (s .count) a < s .count
   inside = seat-in (s .count) a some
@@ -84,53 +74,45 @@ module _ (s : System) (r : Ready s) (a : Action) where
   abbrev actor : Actor
   actor = getD (s .actors) (i .0) zeroActor
 
-  part-there : PartReady (s .count) (s .network) actor table
-  unfolding actorLaid
-  part-there =
-      let e = laid-at s r i inside in
+  -- The actor at the seat is well formed.
+  at-seat : actorFine (length (m .actors)) actor ≡ true
+  at-seat =
+      ap (actorFine (length (m .actors))) (actor-at s (r .laid) (r .formed) i inside)
+      ∙ actor-kept (length (m .actors)) (rules.actor m i) (seat-ok s (r .laid) (r .formed) i inside) (formed-of m (r .formed) .few)
+
+  there : Touchable (s .count) (s .network) actor table
+  unfolding durableFine storedFine
+  there =
+      let f = fine-is (length (m .actors)) actor at-seat in
       record {
         few = few;
         net = net-ready s (r .laid) (r .formed);
-        actor = actor-is-laid s (r .laid) (r .formed) i inside;
+        link = every-cons _ _ (f .durable) .0;
+        stored = every-cons _ _ (f .stored) .0;
+        state = leb-true (actor .link .state) lastState (f .state);
         table = table-is-ok s (r .laid) (r .formed) i inside;
-        link = every-cons _ _ e .0;
-        stored = every-cons _ _ (every-cons _ _ e .1) .0;
       }
 
-  -- What the core answered, put back.
-  stepped : (o : Outcome Part) (x : Touched) → x ≡ touchedOf (s .network) actor o → Among refusal o → Holds (Ruled (rules.actor m i .rules)) o
-      → putTouched s (i .0) x ≡ answeredOf s (mapped (putBack i m) o)
-  unfolding Among mapped choose answerOf
-  stepped (done p) x e k z = ap (putTouched s (i .0)) e ∙ (let w = put-system s r i inside p (z .value p refl .rules) in
-      λ j. record { answer = Done; system = w j })
-  stepped (refused n) x e k z = ap (putTouched s (i .0)) e ∙ rw (not-true (isDone (answerOf n)) k)
+  -- What the rules' action is, put back.
+  module _ (x : Touched) (t : Touches (s .count) a (s .network) actor table x) where
+    own : holding i (hall s r i inside) (netView (s .network)) (seated table actor) ≡ m
+    own = held-own s r i inside
 
-  abbrev outcome : Outcome Part
-  outcome = actPart base (length (m .actors)) a (partOf i m)
+    is-runs : isDone (x .answer) ≡ true
+        → systems (rules.act base m a) ≡ done (holding i (hall s r i inside) (netView (x .network)) (seated table (x .actor)))
+    is-runs h = ap (λ (y : rules.Sys). systems (rules.act base y a)) (sym own) ∙ t .runs h (hall s r i inside) (sized s r)
 
-  same-outcome : actPart base (s .count) a (partView (rulesOf table) (s .network) actor) ≡ outcome
-  same-outcome = let c = counted s (r .laid) (r .formed) in λ j. actPart base (c j) a (part-at s r i inside j)
+    is-stops : isDone (x .answer) ≡ false → systems (rules.act base m a) ≡ refused (answerNumber (x .answer))
+    is-stops h = ap (λ (y : rules.Sys). systems (rules.act base y a)) (sym own) ∙ t .stops h (hall s r i inside) (sized s r)
 
-  ruled : Holds (Ruled (rules.actor m i .rules)) outcome
-  unfolding partOf
-  ruled = act-ruled (rules.actor m i .rules) base (length (m .actors)) a (partOf i m) (record { rules = refl })
-
-  -- It is the rules' action.
-  as-rules : answeredOf s (mapped (putBack i m) outcome) ≡ answeredOf s (systems (rules.act base m a))
-  unfolding rules.known
-  as-rules =
-      let c = counted s (r .laid) (r .formed) in
-      let k : rules.known m (target a) ≡ true → i ≡ target a = λ h. λ j. record { 0 = seat-target (s .count) a (ap (ltb (target a .0)) c ∙ h) j } in
-      ap (answeredOf s) (sym (act-parts base m i a k))
-
-  -- What the core answered, written back whatever the answer: a refusal's network and actor are those that came.
-  kept : (o : Outcome Part) (x : Touched) → x ≡ touchedOf (s .network) actor o → Holds (Ruled (rules.actor m i .rules)) o
-      → writtenBack s (i .0) x ≡ answeredOf s (mapped (putBack i m) o)
-  unfolding mapped
-  kept (done p) x e z = ap (writtenBack s (i .0)) e ∙ (let w = put-system s r i inside p (z .value p refl .rules) in
-      λ j. record { answer = answerOf 0; system = w j })
-  kept (refused n) x e z = ap (writtenBack s (i .0)) e ∙ (let w = set-get (s .actors) (i .0) zeroActor in
-      λ j. record { answer = answerOf n; system = record { count = s .count; network = s .network; actors = w j; tables = s .tables } })
+    put : (d : Bool) → isDone (x .answer) ≡ d → putTouched s (i .0) x ≡ answeredOf s (systems (rules.act base m a))
+    unfolding choose answerOf
+    put true h =
+        let w = put-system s r i inside (x .network) (x .actor) (t .network) (t .actor) in
+        rw h ((λ j. record { answer = Done; system = w j }) ∙ sym (ap (answeredOf s) (is-runs h)))
+    put false h =
+        let v = number-answer (x .answer) in
+        rw h ((λ j. record { answer = sym v j; system = s }) ∙ sym (ap (answeredOf s) (is-stops h)))
 
   -- ---- as the code reads them: whatever stands beyond the arrays
   module _ (k : ℕ) (here : k ≡ seat (s .count) a) (d : Actor) (e : Table) where
@@ -149,26 +131,15 @@ module _ (s : System) (r : Ready s) (a : Action) where
         (let z = formed-of m (r .formed) .few in let q = length-map (m .actors) tableFor in omega arith) in
         get-any (s .tables) k e zeroTable (let b = below in omega arith) ∙ ap (λ (j : ℕ). getD (s .tables) j zeroTable) here
 
-    -- What the core asks.
-    pub part-ready : PartReady (s .count) (s .network) (getD (s .actors) k d) (getD (s .tables) k e)
-    part-ready = rw (same-actor, same-table) part-there
+    pub touchable : Touchable (s .count) (s .network) (getD (s .actors) k d) (getD (s .tables) k e)
+    touchable = rw (same-actor, same-table) there
 
-    -- What it answers, put back or written back, is the rules' action.
-    module _ (x : Touched) (f : x ≡ touchedOf (s .network) (getD (s .actors) k d)
-        (actPart base (s .count) a (partView (rulesOf (getD (s .tables) k e)) (s .network) (getD (s .actors) k d)))) where
-      here-touched : x ≡ touchedOf (s .network) actor outcome
-      here-touched = f ∙ (λ j. touchedOf (s .network) (same-actor j) (actPart base (s .count) a
-          (partView (rulesOf (same-table j)) (s .network) (same-actor j)))) ∙ ap (touchedOf (s .network) actor) same-outcome
-
-      pub act-done : putTouched s k x ≡ answeredOf s (systems (rules.act base m a))
-      unfolding answerOf
-      act-done =
-          ap (λ (j : ℕ). putTouched s j x) here
-          ∙ stepped outcome x here-touched (on-act refusal refl refl refl refl refl refl refl refl base (length (m .actors)) a (partOf i m)) ruled
-          ∙ as-rules
-
-      pub act-written : writtenBack s k x ≡ answeredOf s (systems (rules.act base m a))
-      act-written = ap (λ (j : ℕ). writtenBack s j x) here ∙ kept outcome x here-touched ruled ∙ as-rules
+    pub act-done : (x : Touched) → Touches (s .count) a (s .network) (getD (s .actors) k d) (getD (s .tables) k e) x
+        → putTouched s k x ≡ answeredOf s (systems (rules.act base m a))
+    act-done x t =
+        ap (λ (j : ℕ). putTouched s j x) here
+        ∙ put x (subst (λ (y : Actor). Touches (s .count) a (s .network) y table x) same-actor
+        (subst (λ (y : Table). Touches (s .count) a (s .network) (getD (s .actors) k d) y x) same-table t)) (isDone (x .answer)) refl
 
 -- ---- the test before the step
 refused-by : (l w : Bool) (o : Outcome rules.Next) → every (l ∷ w ∷ []) ≡ false → guard l 9 (systems (guard w 9 o)) ≡ refused 9
@@ -199,9 +170,8 @@ next-ready s a (done x) r h = let w = h .value x refl in record { laid = image-l
 next-ready s a (refused k) r h = r
 
 pub act-keeps : (s : System) (a : Action) → Ready s → Ready (answeredOf s (systems (rules.act base (sysView s) a)) .system)
-unfolding step
 act-keeps s a r = next-ready s a (rules.act base (sysView s) a) r (subst (Holds (λ (x : rules.Next). wellFormed base (x .sys) ≡ true))
-    (guarded _ 9 _ (r .formed)) (step-formed base (sysView s) a))
+    (formed-step base (sysView s) a (r .formed)) (step-formed base (sysView s) a))
 
 -- What the test found.
 pub fine-ready : (s : System) → systemFine s ≡ true → SystemLaid s → Ready s

@@ -2,7 +2,7 @@
 -- Assumes nothing.
 use borrow.Author.Needs.{needs}
 use native.Mathlib.Omega.{arith}
-use Prim.Native.Nat.{ℕ, _≤_, _<_, _-_, _+_}
+use Prim.Native.Nat.{ℕ, _≤_, _-_}
 use mathlib.Core.Path.{_≡_, refl, sym, ap, _∙_}
 use mathlib.Core.List.{List, map}
 use lib.ListN.{length, take, getD, set, replicate}
@@ -58,11 +58,14 @@ loop-again c =
     let es = c .before .before .before .before .before .before .args .d .pending .records in
     let n : length es ≡ mostPending = search (needs, length-mapped) in
     let r = c .record-of .ensures in
-    let m = ap length (l .inv .2) ∙ filled recordOf mostPending noRecord es (l .i) (omega arith) in
-    (l .inv .0, omega arith, ap (λ (q : List ℕ). set (l .rows) (l .i) q) (r .0)
-    ∙ ap (λ (q : List (List ℕ)). set q (l .i) (recordOf (getD es (l .i) zeroPending))) (l .inv .2)
-    ∙ grown recordOf mostPending noRecord es zeroPending (l .i) (omega arith) (omega arith),
-    rw (r .0) (sendable-more (l .rows) (l .i) _ (omega arith) (l .inv .3) (r .1) (r .2)))
+    let m = ap length (l .inv .2) ∙ filled recordOf mostPending noRecord es (l .i) (omega arith) in (
+      l .inv .0,
+      omega arith,
+      ap (λ (q : List ℕ). set (l .rows) (l .i) q) (r .0)
+          ∙ ap (λ (q : List (List ℕ)). set q (l .i) (recordOf (getD es (l .i) zeroPending))) (l .inv .2)
+          ∙ grown recordOf mostPending noRecord es zeroPending (l .i) (omega arith) (omega arith),
+      rw (r .0) (sendable-more (l .rows) (l .i) _ (omega arith) (l .inv .3) (r .1) (r .2)),
+    )
 
 returns : tie.Need-returns Inv-loop μ-loop
 returns c =

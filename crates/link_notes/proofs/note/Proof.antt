@@ -2,13 +2,13 @@
 -- Assumes nothing.
 use borrow.Author.Needs.{needs}
 use native.Mathlib.Omega.{arith}
-use Prim.Native.Nat.{ℕ, suc, _+_, _≤_, _<_, _-_}
-use mathlib.Core.Path.{_≡_, refl, sym, ap, _∙_}
-use lib.ListN.{length, getD, take, drop}
+use Prim.Native.Nat.{_+_, _≤_, _<_, _-_}
+use mathlib.Core.Path.{_≡_, refl, ap}
+use lib.ListN.{length, getD, drop}
 use Rattle.link_rows.specs.Rows.{rowSize}
-use Rattle.link_tables.specs.Rows.{RowLaid, orders, orderAt}
+use Rattle.link_tables.specs.Rows.{orders}
 use Rattle.link_tables.proofs.Told.{split-at, orders-end}
-use Rattle.link_direct.specs.Direct.{noted, sends}
+use Rattle.link_direct.specs.Direct.{sends}
 use Rattle.link_notes.proofs.Laws.{Along, along-step, along-end, sends-cons}
 use Rattle.link_notes.proofs.note.Statement.{statement}
 use Rattle.link_notes.proofs.note.Tie as tie
@@ -70,9 +70,13 @@ loop-again c =
     let h : l .i < getD (a .row .now) 5 0 = omega arith in
     let q = split-at (a .row .now) (a .source) (a .value) (s .pre .0) (l .i) h (x .result) (x .ensures) in
     let g : l .i + 1 ≤ getD (a .row .now) 5 0 = omega arith in
-    let e = c .before .before .before .note-one in
-    (g, search needs, search needs, along-step os (a .live .now) (a .pend .now) (l .live) (l .pend) (drop (l .i) os) (l .inv .3)
-    (x .result) (drop (l .i + 1) os) q (e .last .0) (e .last .1 .0) (e .ensures))
+    let e = c .before .before .before .note-one in (
+      g,
+      search needs,
+      search needs,
+      along-step os (a .live .now) (a .pend .now) (l .live) (l .pend) (drop (l .i) os) (l .inv .3)
+          (x .result) (drop (l .i + 1) os) q (e .last .0) (e .last .1 .0) (e .ensures),
+    )
 
 same-length : tie.Need-same-length Inv-loop μ-loop
 same-length c = search needs

@@ -69,7 +69,8 @@ returns-4 : tie.Need-returns-4
 returns-4 c =
     let s = c .before .before .before .before .before .before .before .before .before .before .before .before in
     let e = c .before .before .before .post in
-    note-send (s .args .x) (s .args .live .now) (s .args .pend .now) _ _ (c .before .before .before .before .before .before .before .before .before .x2 .given .1)
+    note-send (s .args .x) (s .args .live .now) (s .args .pend .now) _ _
+    (c .before .before .before .before .before .before .before .before .before .x2 .given .1)
     (e .last .0) (e .last .1 .0) (e .ensures .0) (e .ensures .1)
 
 pub note-one-spec : {M : Type 1} → statement M

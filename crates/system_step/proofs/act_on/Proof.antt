@@ -2,7 +2,7 @@
 use native.Mathlib.Omega.{arith}
 use mathlib.Core.Path.{_∙_}
 use Rattle.system_formed.proofs.Outside.{no-actor, no-table}
-use Rattle.system_step.proofs.Laws.{below, part-ready, act-done}
+use Rattle.system_step.proofs.Laws.{below, touchable, act-done}
 use borrow.Author.Needs.{needs}
 use Rattle.system_step.proofs.act_on.Statement.{statement}
 use Rattle.system_step.proofs.act_on.Tie as tie
@@ -32,10 +32,10 @@ array-copy-out-table c =
     let s = c .before .before .before .before .before in
     below (s .args .s) (s .pre) (s .args .a) _ (c .before .before .before .before .seat .ensures) no-actor no-table
 
-act-requires : tie.Need-act-requires
-act-requires c κs =
+touch-requires : tie.Need-touch-requires
+touch-requires c κs =
     let s = c .before .before .before .before .before .before in
-    part-ready (s .args .s) (s .pre) (s .args .a) _ (c .before .before .before .before .before .seat .ensures) no-actor no-table
+    touchable (s .args .s) (s .pre) (s .args .a) _ (c .before .before .before .before .before .seat .ensures) no-actor no-table
 
 put-back-requires : tie.Need-put-back-requires
 put-back-requires c κs =
@@ -47,7 +47,7 @@ returns c =
     let s = c .before .before .before .before .before .before .before .before in
     c .put-back .ensures
     ∙ act-done (s .args .s) (s .pre) (s .args .a) _ (c .before .before .before .before .before .before .before .seat .ensures) no-actor no-table
-    (c .before .act .result) (c .before .act .ensures)
+    (c .before .touch .result) (c .before .touch .ensures)
 
 pub act-on-spec : {M : Type 1} → statement M
 act-on-spec =
@@ -58,6 +58,6 @@ act-on-spec =
     array-copy-out-actor
     mul-table
     array-copy-out-table
-    act-requires
+    touch-requires
     put-back-requires
     returns)

@@ -1,0 +1,4 @@
+pub mod Places
+pub mod Moves
+pub mod Opens
+pub mod Lays
