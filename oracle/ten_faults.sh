@@ -9,9 +9,9 @@ kit=$(dirname "$(dirname "$(rt doc)")")
 own=$kit/on/$(uname -m)
 program=$copy/crates/test_fixed_list
 
-faults="link_handlers/ignored_marked_taken link_durable/next_not_saved link_handlers/untouched_by_state link_handlers/ack_left_out
-link_handlers/equal_number_handed link_durable/removed_by_destination steps/timer_not_cancelled steps/crash_keeps_timers
-act/absent_before_ignored net_network/count_not_raised"
+faults="sys_deliver/ignored_marked_taken sys_moves/sent_not_saved link_tables/command_ignored sys_reacts/ack_left_out
+sys_deliver/equal_number_handed link_rows/first_acked sys_timeout/idle_timer_stays sys_act/crash_keeps_timers
+sys_deliver/crashed_hears net_rows/count_not_raised"
 
 # Every library of the repository that the program needs goes in as source, so that a fault needs no proof. The kit's go in as they
 # were built: as source, libc's module `types` and our crate of that name would clash, which is why `rt try` cannot run this program.
