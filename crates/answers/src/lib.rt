@@ -1,4 +1,4 @@
-// The answers: each with its number, and of two refusals that are due the one to give.
+// The answers, each with its number.
 ghost use mathlib.Core.Path.{_≡_};
 ghost use Rattle.answers.specs.Answers.{answerNumber, isDone};
 
