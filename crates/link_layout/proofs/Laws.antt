@@ -7,7 +7,7 @@ use mathlib.Core.Path.{_≡_, refl, sym, ap, _∙_}
 use mathlib.Core.Bool.{true}
 use mathlib.Core.List.{List, [], _∷_, _++_, map}
 use lib.ListN.{length, take, drop, getD, set, length-map, length-take}
-use lib.Seq.{take-suc, take-at, length-take-le}
+use lib.Seq.{take-suc, length-take-le}
 use borrow.Author.Tests.{leb-true}
 use Rattle.lists.specs.Lists.{pad}
 use Rattle.lists.proofs.Members.{every-cons}
@@ -23,8 +23,8 @@ use Rattle.link_durable.specs.declared.Taken.{Taken}
 use Rattle.link_durable.specs.declared.Durable.{Durable}
 use Rattle.link_durable.specs.Views.{zeroPending, pendingsOf, takenList, takenAs, durableView, durableAs, pendingsLaid, takenLaid, durableLaid}
 use Rattle.link_durable.proofs.Containers.{durable-parts}
-use Rattle.link_rows.specs.Rows.{rowSize, pendingIn, numberIn, storageIn, durableIn, Sendable, HeadLaid}
-use Rattle.link_layout.specs.Rows.{recordOf, noRecord, recordsOf, wordOf, takenOf, savesOf, valueOf, rowOf}
+use Rattle.link_rows.specs.Rows.{rowSize, pendingIn, numberIn, storageIn, durableIn}
+use Rattle.link_layout.specs.Rows.{wordOf, takenOf, savesOf, valueOf, rowOf}
 
 map-snoc : {A B : Type 0} (f : A → B) (l : List A) (a : A) → map f (l ++ a ∷ []) ≡ map f l ++ f a ∷ []
 map-snoc f [] a = refl
@@ -40,7 +40,8 @@ grown {A} {B} f n z es d i h k =
     ∙ ap (pad n z) (sym (map-snoc f (take i es) (getD es i d)) ∙ ap (map f) (sym (take-suc es i d k) ∙ ap (λ (j : ℕ). take j es) (sym (add-one i))))
 
 -- The same past the first eight places.
-pub grown-after : (es : List Number) (d : Number) (i : ℕ) → i < mostActors → i < length es → set (takenOf (take i es)) (8 + i) (getD es i d .0) ≡ takenOf (take (i + 1) es)
+pub grown-after : (es : List Number) (d : Number) (i : ℕ) → i < mostActors → i < length es
+    → set (takenOf (take i es)) (8 + i) (getD es i d .0) ≡ takenOf (take (i + 1) es)
 grown-after es d i h k =
     let e : 8 + i ≡ suc (suc (suc (suc (suc (suc (suc (suc i))))))) = omega arith in
     rw e (ap (λ (l : List ℕ). 0 ∷ 0 ∷ 0 ∷ 0 ∷ 0 ∷ 0 ∷ 0 ∷ 0 ∷ l) (grown wordOf (rowSize - 8) 0 es d i (omega arith) k))
@@ -75,24 +76,28 @@ counts d e =
 -- ---- the row
 module _ (d : Durable) (n : length (d .pending .records) ≡ mostPending) (m : length (d .taken .last) ≡ mostActors) (laid : durableLaid d ≡ true)
     (r : List ℕ) (e : r ≡ takenOf (takenList (d .taken))) where
+  abbrev numbers : List ℕ
+  numbers = pad (rowSize - 8) 0 (map wordOf (takenList (d .taken)))
+
   abbrev begun : List ℕ
   begun = set (set (set r 0 (d .next .0)) 1 (d .pending .used)) 4 (d .taken .used)
 
   -- The words up to place 4, of a storage that the struct holds.
   begun-is : (s : Storage) → d .inner ≡ s
-      → d .next .0 ∷ d .pending .used ∷ savesOf s ∷ valueOf s ∷ d .taken .used ∷ 0 ∷ 0 ∷ 0 ∷ pad (rowSize - 8) 0 (map wordOf (takenList (d .taken)))
+      → d .next .0 ∷ d .pending .used ∷ savesOf s ∷ valueOf s ∷ d .taken .used ∷ 0 ∷ 0 ∷ 0 ∷ numbers
       ≡ rowOf (durableView d)
   begun-is s f =
       let h = counts d laid in
       let e1 = sym (length-take-le (d .pending .used) (d .pending .records) (omega arith)) in
       let e4 = sym (length-take-le (d .taken .used) (d .taken .last) (omega arith)) in
-      λ j. d .next .0 ∷ e1 j ∷ savesOf (sym f j) ∷ valueOf (sym f j) ∷ e4 j ∷ 0 ∷ 0 ∷ 0 ∷ pad (rowSize - 8) 0 (map wordOf (takenList (d .taken)))
+      λ j. d .next .0 ∷ e1 j ∷ savesOf (sym f j) ∷ valueOf (sym f j) ∷ e4 j ∷ 0 ∷ 0 ∷ 0 ∷ numbers
 
   pub row-nothing : d .inner ≡ Nothing → (begun ≡ rowOf (durableView d)) × (valueOf (d .inner) < 4294967296)
   row-nothing f =
       (ap (λ (l : List ℕ). set (set (set l 0 (d .next .0)) 1 (d .pending .used)) 4 (d .taken .used)) e ∙ begun-is Nothing f, rw f (omega arith))
 
-  pub row-value : (v : ℕ) → d .inner ≡ Value v → v < 4294967296 → (set (set begun 2 1) 3 v ≡ rowOf (durableView d)) × (valueOf (d .inner) < 4294967296)
+  pub row-value : (v : ℕ) → d .inner ≡ Value v → v < 4294967296
+      → (set (set begun 2 1) 3 v ≡ rowOf (durableView d)) × (valueOf (d .inner) < 4294967296)
   row-value v f h =
       (ap (λ (l : List ℕ). set (set (set (set (set l 0 (d .next .0)) 1 (d .pending .used)) 4 (d .taken .used)) 2 1) 3 v) e ∙ begun-is (Value v) f, rw f h)
 

@@ -1,9 +1,9 @@
 -- The rows that a durable part is laid out as: what it does not use is zero. And rows that one can be read off.
 -- Assumes nothing.
-use Prim.Native.Nat.{ℕ, _-_, _≤_, _<_}
+use Prim.Native.Nat.{ℕ, _-_, _≤_}
 use mathlib.Core.Path.{_≡_}
-use mathlib.Core.List.{List, [], _∷_, _++_, map}
-use lib.ListN.{length, getD, replicate}
+use mathlib.Core.List.{List, [], _∷_, map}
+use lib.ListN.{length, getD}
 use Rattle.lists.specs.Lists.{pad}
 use Rattle.types.specs.Capacities.{mostPending, mostActors}
 use Rattle.types.specs.declared.Number.{Number}

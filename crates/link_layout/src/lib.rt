@@ -15,7 +15,7 @@ ghost use mathlib.Core.Path.{_≡_};
 ghost use mathlib.Core.Bool.{true};
 ghost use mathlib.Core.List.{map};
 ghost use Prim.Native.Nat.{_≤_, _<_};
-ghost use lib.ListN.{length, take, drop, getD};
+ghost use lib.ListN.{length, take, drop};
 ghost use Rattle.types.specs.Capacities.{mostPending, mostActors};
 ghost use Rattle.link_durable.specs.Views.{pendingList, pendingsOf, takenList, takenAs, durableView, durableAs, durableLaid};
 ghost use Rattle.link_rows.specs.Rows.{rowSize, pendingIn, numberIn, storageIn, durableIn, Sendable};

@@ -1,9 +1,9 @@
 -- Inner commands noted one by one.
 -- Assumes nothing.
-use Prim.Native.Nat.{ℕ, zero, suc, _+_, _≤_}
+use Prim.Native.Nat.{ℕ, _+_}
 use native.Mathlib.Omega.{arith}
 use mathlib.Core.Path.{_≡_, refl, sym, ap, _∙_}
-use mathlib.Core.List.{List, [], _∷_, _++_}
+use mathlib.Core.List.{List, [], _∷_}
 use lib.ListN.{drop, getD}
 use Rattle.types.specs.declared.Id.{Id}
 use Rattle.types.specs.declared.Payload.{Payload}
@@ -37,7 +37,8 @@ module _ (x : InnerCommand) (w : List ℕ) (p : List (List ℕ)) where
   unfolding noted sends
   note-cancel t e = rw e (record { durable = refl; places = omega arith; numbers = omega arith; after = refl; head = λ fit. fit })
 
-  pub note-save : (v : ℕ) → x ≡ inner.Save v → (w' : List ℕ) → Turned (withInner v) w p w' p → getD w' 1 0 ≡ getD w 1 0 → Noted (x ∷ []) w p w' p
+  pub note-save : (v : ℕ) → x ≡ inner.Save v → (w' : List ℕ) → Turned (withInner v) w p w' p → getD w' 1 0 ≡ getD w 1 0
+      → Noted (x ∷ []) w p w' p
   unfolding noted sends withInner durableIn
   note-save v e w' q h = rw e (record {
     durable = q .durable;
@@ -72,8 +73,8 @@ module _ (os : List InnerCommand) (w₀ : List ℕ) (p₀ : List (List ℕ)) whe
     pub head : HeadLaid w₀ p₀ → HeadLaid w p
 
   module _ (w : List ℕ) (p : List (List ℕ)) (rest : List InnerCommand) (on : Along w p rest) where
-    pub along-step : (x : InnerCommand) (more : List InnerCommand) → rest ≡ x ∷ more → (w' : List ℕ) (p' : List (List ℕ)) → Noted (x ∷ []) w p w' p'
-        → Along w' p' more
+    pub along-step : (x : InnerCommand) (more : List InnerCommand) → rest ≡ x ∷ more → (w' : List ℕ) (p' : List (List ℕ))
+        → Noted (x ∷ []) w p w' p' → Along w' p' more
     along-step x more e w' p' n =
         let s = ap sends e in
         let t = sends-cons x more in

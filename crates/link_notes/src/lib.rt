@@ -7,11 +7,11 @@ use link_tables::command_at;
 use types::Id;
 use types::InnerCommand;
 ghost use mathlib.Core.Path.{_≡_};
-ghost use mathlib.Core.List.{List, [], _∷_};
+ghost use mathlib.Core.List.{[], _∷_};
 ghost use Prim.Native.Nat.{_+_, _≤_, _<_};
 ghost use lib.ListN.{length, getD};
-ghost use Rattle.link_rows.specs.Rows.{rowSize, durableIn};
-ghost use Rattle.link_direct.specs.Direct.{noted, sends};
+ghost use Rattle.link_rows.specs.Rows.{rowSize};
+ghost use Rattle.link_direct.specs.Direct.{sends};
 ghost use Rattle.link_tables.specs.Rows.{RowLaid, orders};
 ghost use Rattle.link_notes.specs.Views.{Noted};
 

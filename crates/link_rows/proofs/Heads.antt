@@ -3,9 +3,9 @@
 use Prim.Native.Nat.{ℕ, zero, suc, _+_, _-_, _≤_, _<_}
 use native.Mathlib.Omega.{arith}
 use native.Mathlib.Numerals.{add-one}
-use mathlib.Core.Path.{_≡_, refl, sym, ap, _∙_}
+use mathlib.Core.Path.{_≡_, sym, ap, _∙_}
 use mathlib.Core.List.{List, [], _∷_, _++_}
-use lib.ListN.{length, getD, set, take, length-set}
+use lib.ListN.{length, getD, set, take}
 use lib.Seq.{getD-set-same, getD-set-other, getD-take, take-suc, take-suc-set}
 use borrow.Author.Count.{below-more}
 use Rattle.lists.specs.Lists.{del}
@@ -14,7 +14,8 @@ use Rattle.link_rows.specs.Rows.{rowSize, Sendable, HeadLaid}
 -- The records that are counted are the same ones.
 pub sendable-same : (p q : List (List ℕ)) (n : ℕ) → take n q ≡ take n p → Sendable p n → Sendable q n
 sendable-same p q n e fit =
-    let at : (i : ℕ) → i < n → getD q i [] ≡ getD p i [] = λ i h. sym (getD-take n q i [] h) ∙ ap (λ (l : List (List ℕ)). getD l i []) e ∙ getD-take n p i [] h in
+    let at : (i : ℕ) → i < n → getD q i [] ≡ getD p i [] =
+    λ i h. sym (getD-take n q i [] h) ∙ ap (λ (l : List (List ℕ)). getD l i []) e ∙ getD-take n p i [] h in
     record {
       dst = λ i h. let z = ap (λ (r : List ℕ). getD r 1 0) (at i h) in let y = fit .dst i h in omega arith;
       payload = λ i h. let z = ap (λ (r : List ℕ). getD r 2 0) (at i h) in let y = fit .payload i h in omega arith;
@@ -27,7 +28,8 @@ copied-more p q i a b e =
     rw (add-one i) (take-suc-set q i (getD p i []) b ∙ ap (λ (l : List (List ℕ)). l ++ getD p i [] ∷ []) e ∙ sym (take-suc p i [] a))
 
 -- The same words up to place 3.
-pub head-same : (w v : List ℕ) (p : List (List ℕ)) → getD v 1 0 ≡ getD w 1 0 → getD v 2 0 ≡ getD w 2 0 → getD v 3 0 ≡ getD w 3 0 → HeadLaid w p → HeadLaid v p
+pub head-same : (w v : List ℕ) (p : List (List ℕ)) → getD v 1 0 ≡ getD w 1 0 → getD v 2 0 ≡ getD w 2 0 → getD v 3 0 ≡ getD w 3 0
+    → HeadLaid w p → HeadLaid v p
 head-same w v p e1 e2 e3 fit = record {
   sendable = rw e1 (fit .sendable);
   saves = let z = fit .saves in omega arith;
@@ -55,7 +57,8 @@ module _ (w v : List ℕ) (p : List (List ℕ)) (q : List ℕ) (room : getD w 1 
   }
 
 -- ---- one record less
-past : {A : Type 0} (P : A → Type 0) (d : A) (at : ℕ) (l : List A) (n : ℕ) → ((i : ℕ) → i ≤ n → P (getD l i d)) → (i : ℕ) → i < n → P (getD (del at l) i d)
+past : {A : Type 0} (P : A → Type 0) (d : A) (at : ℕ) (l : List A) (n : ℕ) → ((i : ℕ) → i ≤ n → P (getD l i d))
+    → (i : ℕ) → i < n → P (getD (del at l) i d)
 unfolding del
 past P d zero [] n h i b = h i (omega arith)
 past P d zero (x ∷ l) n h i b = h (suc i) (omega arith)
@@ -67,7 +70,7 @@ module _ (p q : List (List ℕ)) (n at : ℕ) (some : 0 < n) (e : take (n - 1) q
   word-less : (k most : ℕ) → ((i : ℕ) → i < n → getD (getD p i []) k 0 < most) → (i : ℕ) → i < n - 1 → getD (getD q i []) k 0 < most
   word-less k most old i h =
       let y = past (λ (r : List ℕ). getD r k 0 < most) [] at (take n p) (n - 1)
-          (λ j c. let l : j < n = omega arith in let z = ap (λ (r : List ℕ). getD r k 0) (getD-take n p j [] l) in let x = old j l in omega arith) i h in
+      (λ j c. let l : j < n = omega arith in let z = ap (λ (r : List ℕ). getD r k 0) (getD-take n p j [] l) in let x = old j l in omega arith) i h in
       let z = ap (λ (r : List ℕ). getD r k 0) (sym (getD-take (n - 1) q i [] h) ∙ ap (λ (l : List (List ℕ)). getD l i []) e) in
       omega arith
 

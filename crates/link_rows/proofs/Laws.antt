@@ -11,12 +11,9 @@ use mathlib.Core.Bool.{Bool, true, false, not}
 use Rattle.lists.specs.Lists.{lead, del}
 use Rattle.lists.proofs.Places.{cut-found, cut-missing}
 use lib.Seq.{getD-set-same, getD-set-other, drop-set-lt, take-suc-set, length-take-le}
-use Rattle.types.specs.declared.Number.{Number}
-use Rattle.types.specs.declared.Pending.{Pending}
-use Rattle.types.specs.declared.Storage.{Storage}
-use Rattle.rules.specs.Link.{Durable, numbered, posting, withInner, without, acked}
-use Rattle.link_rows.specs.Rows.{rowSize, pendingIn, numberIn, storageIn, durableIn, other, HeadLaid, Turned}
-use Rattle.link_rows.proofs.Heads.{head-same, head-more, head-less}
+use Rattle.rules.specs.Link.{numbered, posting, withInner, without, acked}
+use Rattle.link_rows.specs.Rows.{rowSize, pendingIn, numberIn, storageIn, durableIn, other, Turned}
+use Rattle.link_rows.proofs.Heads.{head-more, head-less}
 
 map-snoc : {A B : Type 0} (f : A → B) (l : List A) (a : A) → map f (l ++ a ∷ []) ≡ map f l ++ f a ∷ []
 map-snoc f [] a = refl
@@ -40,7 +37,8 @@ module _ (w : List ℕ) (i j a b : ℕ) (room : length w ≡ rowSize) (hi : i < 
   after = drop-set-lt 8 (set w i a) j b hj ∙ drop-set-lt 8 w i a hi
 
 posted : (w : List ℕ) (p : List (List ℕ)) (dst payload : ℕ) → length w ≡ rowSize → getD w 1 0 < length p
-    → durableIn (set (set w 0 (getD w 0 0 + 1)) 1 (getD w 1 0 + 1)) (set p (getD w 1 0) (getD w 0 0 ∷ dst ∷ payload ∷ 0 ∷ [])) ≡ posting (record { 0 = dst }) (record { 0 = payload }) (durableIn w p)
+    → durableIn (set (set w 0 (getD w 0 0 + 1)) 1 (getD w 1 0 + 1)) (set p (getD w 1 0) (getD w 0 0 ∷ dst ∷ payload ∷ 0 ∷ []))
+    ≡ posting (record { 0 = dst }) (record { 0 = payload }) (durableIn w p)
 unfolding durableIn posting numbered pendingIn
 posted w p dst payload room h =
     let n = getD w 1 0 in
@@ -71,16 +69,20 @@ posted-count w a b room = set-second w 0 1 a b room (omega arith) (omega arith) 
 pub valued-count : (w : List ℕ) (a b : ℕ) → length w ≡ rowSize → getD (set (set w 2 a) 3 b) 1 0 ≡ getD w 1 0
 valued-count w a b room = beside w 2 3 a b room (omega arith) (omega arith) (λ e. omega arith) 1 (λ e. omega arith) (λ e. omega arith)
 
-module _ (w : List ℕ) (p : List (List ℕ)) (dst payload : ℕ) (room : length w ≡ rowSize) (h : getD w 1 0 < length p) (hd : dst < 256) (hp : payload < 4294967296) where
+module _ (w : List ℕ) (p : List (List ℕ)) (dst payload : ℕ) (room : length w ≡ rowSize) (h : getD w 1 0 < length p) (hd : dst < 256)
+    (hp : payload < 4294967296) where
   pub turned-post : Turned (posting (record { 0 = dst }) (record { 0 = payload })) w p
       (set (set w 0 (getD w 0 0 + 1)) 1 (getD w 1 0 + 1)) (set p (getD w 1 0) (getD w 0 0 ∷ dst ∷ payload ∷ 0 ∷ []))
   turned-post =
       let v = set (set w 0 (getD w 0 0 + 1)) 1 (getD w 1 0 + 1) in
-      let same : (k : ℕ) → (k ≡ 0 → ⊥) → (k ≡ 1 → ⊥) → getD v k 0 ≡ getD w k 0 = beside w 0 1 _ _ room (omega arith) (omega arith) (λ e. omega arith) in
+      let same : (k : ℕ) → (k ≡ 0 → ⊥) → (k ≡ 1 → ⊥) → getD v k 0 ≡ getD w k 0 =
+      beside w 0 1 _ _ room (omega arith) (omega arith) (λ e. omega arith) in
+      let e2 = same 2 (λ e. omega arith) (λ e. omega arith) in
+      let e3 = same 3 (λ e. omega arith) (λ e. omega arith) in
       record {
         durable = posted w p dst payload room h;
         after = low-set w 0 1 _ _ (omega arith) (omega arith);
-        head = λ fit. head-more w v p _ h fit hd hp (posted-count w _ _ room) (same 2 (λ e. omega arith) (λ e. omega arith)) (same 3 (λ e. omega arith) (λ e. omega arith));
+        head = λ fit. head-more w v p _ h fit hd hp (posted-count w _ _ room) e2 e3;
       }
 
 valued : (w : List ℕ) (p : List (List ℕ)) (v : ℕ) → length w ≡ rowSize → durableIn (set (set w 2 1) 3 v) p ≡ withInner v (durableIn w p)
@@ -95,9 +97,15 @@ valued w p v room =
     let e1 = beside w 2 3 1 v room i j no 1 (λ e. omega arith) (λ e. omega arith) in
     let e4 = beside w 2 3 1 v room i j no 4 (λ e. omega arith) (λ e. omega arith) in
     let e5 = after w 2 3 1 v room i j no in
-    λ k. record { next = record { 0 = e0 k }; pending = map pendingIn (take (e1 k) p); taken = map numberIn (take (e4 k) (e5 k)); inner = storageIn (e2 k) (e3 k) }
+    λ k. record {
+      next = record { 0 = e0 k };
+      pending = map pendingIn (take (e1 k) p);
+      taken = map numberIn (take (e4 k) (e5 k));
+      inner = storageIn (e2 k) (e3 k);
+    }
 
-pub turned-value : (w : List ℕ) (p : List (List ℕ)) (v : ℕ) → length w ≡ rowSize → v < 4294967296 → Turned (withInner v) w p (set (set w 2 1) 3 v) p
+pub turned-value : (w : List ℕ) (p : List (List ℕ)) (v : ℕ) → length w ≡ rowSize → v < 4294967296
+    → Turned (withInner v) w p (set (set w 2 1) 3 v) p
 turned-value w p v room hv =
     let no : _≡_ {A = ℕ} 2 3 → ⊥ = λ e. omega arith in
     let u = set (set w 2 1) 3 v in
@@ -131,7 +139,8 @@ module _ (n : ℕ) (l : List (List ℕ)) where
   without-it at p h =
       let z = first-is in
       let w = length-map l pendingIn in
-      sym (cut-found (λ q. eqb n (q .number .0)) (map pendingIn l) (omega arith) ∙ ap (λ (k : ℕ). del k (map pendingIn l)) (z ∙ sym p) ∙ map-del pendingIn at l)
+      sym (cut-found (λ q. eqb n (q .number .0)) (map pendingIn l) (omega arith) ∙ ap (λ (k : ℕ). del k (map pendingIn l)) (z ∙ sym p)
+      ∙ map-del pendingIn at l)
 
   without-none : (at : ℕ) → at ≡ lead (other n) l → length l ≤ at → map pendingIn l ≡ without (record { 0 = n }) (map pendingIn l)
   unfolding without
@@ -140,8 +149,10 @@ module _ (n : ℕ) (l : List (List ℕ)) where
       let w = length-map l pendingIn in
       sym (cut-missing (λ q. eqb n (q .number .0)) (λ q. []) (map pendingIn l) (omega arith))
 
-module _ (w : List ℕ) (p : List (List ℕ)) (n : ℕ) (room : length w ≡ rowSize) (fit : getD w 1 0 ≤ length p) (at : ℕ) (e : at ≡ lead (other n) (take (getD w 1 0) p)) where
-  acked-one : at < getD w 1 0 → (p' : List (List ℕ)) → take (getD w 1 0 - 1) p' ≡ del at (take (getD w 1 0) p) → durableIn (set w 1 (getD w 1 0 - 1)) p' ≡ acked (record { 0 = n }) (durableIn w p)
+module _ (w : List ℕ) (p : List (List ℕ)) (n : ℕ) (room : length w ≡ rowSize) (fit : getD w 1 0 ≤ length p) (at : ℕ)
+    (e : at ≡ lead (other n) (take (getD w 1 0) p)) where
+  acked-one : at < getD w 1 0 → (p' : List (List ℕ)) → take (getD w 1 0 - 1) p' ≡ del at (take (getD w 1 0) p)
+      → durableIn (set w 1 (getD w 1 0 - 1)) p' ≡ acked (record { 0 = n }) (durableIn w p)
   unfolding durableIn acked
   acked-one h p' q =
       let v = length-take-le (getD w 1 0) p fit in
@@ -159,7 +170,12 @@ module _ (w : List ℕ) (p : List (List ℕ)) (n : ℕ) (room : length w ≡ row
   acked-none h =
       let v = length-take-le (getD w 1 0) p fit in
       let ps = without-none n (take (getD w 1 0) p) at e (omega arith) in
-      λ k. record { next = record { 0 = getD w 0 0 }; pending = ps k; taken = map numberIn (take (getD w 4 0) (drop 8 w)); inner = storageIn (getD w 2 0) (getD w 3 0) }
+      λ k. record {
+        next = record { 0 = getD w 0 0 };
+        pending = ps k;
+        taken = map numberIn (take (getD w 4 0) (drop 8 w));
+        inner = storageIn (getD w 2 0) (getD w 3 0);
+      }
 
   pub turned-ack : at < getD w 1 0 → (p' : List (List ℕ)) → take (getD w 1 0 - 1) p' ≡ del at (take (getD w 1 0) p)
       → Turned (acked (record { 0 = n })) w p (set w 1 (getD w 1 0 - 1)) p'

@@ -4,7 +4,7 @@ use Prim.Native.Nat.{ℕ, zero, suc, _+_, _≤_, _<_}
 use native.Mathlib.Omega.{arith}
 use mathlib.Core.Path.{_≡_, refl, sym, ap, _∙_}
 use mathlib.Core.Bool.{Bool, true, false}
-use mathlib.Core.Option.{Option, none, some}
+use mathlib.Core.Option.{none, some}
 use mathlib.Core.List.{List, []}
 use lib.ListN.{length, getD, set}
 use Rattle.lists.specs.Lists.{choose}
@@ -13,11 +13,11 @@ use Rattle.types.specs.Capacities.{mostPending, mostActors, lastState}
 use Rattle.types.specs.declared.Rule.{Rule}
 use Rattle.rules.specs.Link as rules
 use Rattle.rules.specs.System as system
-use Rattle.link_timers.specs.Views.{listed, timersOf}
+use Rattle.link_timers.specs.Views.{listed}
 use Rattle.link_timers.proofs.Listed.{timers-listed}
 use Rattle.link_durable.specs.declared.Durable.{Durable}
 use Rattle.link_durable.specs.declared.Stored.{Stored}
-use Rattle.link_durable.specs.Views.{pendingList, durableView, durableAs, storedView, storedAs, durableLaid, storedLaid}
+use Rattle.link_durable.specs.Views.{durableView, durableAs, storedView, storedAs, durableLaid, storedLaid}
 use Rattle.link_durable.proofs.Containers.{durable-small}
 use Rattle.link_tables.specs.Rows.{mark}
 use Rattle.link_rows.specs.Rows.{durableIn, Sendable}
@@ -26,7 +26,7 @@ use Rattle.link_layout.proofs.Held.{rows-view, records-room, row-room, row-rest
 use Rattle.sys_actor.specs.declared.Actor.{Actor}
 use Rattle.sys_actor.specs.Views.{actorView, actorAs}
 use Rattle.sys_rows.specs.Rows.{storedIn, actorOf, RowsLaid}
-use Rattle.sys_rows.proofs.Laws.{tail-at, sources-small, timers-small, state-small}
+use Rattle.sys_rows.proofs.Laws.{tail-at, sources-small, timers-small}
 use Rattle.sys_layout.specs.Views.{bit, LaidOut}
 
 mark-bit : (b : Bool) → mark (bit b) ≡ b
@@ -96,7 +96,7 @@ module _ (a : Actor) where
       let c = mark-bit (a .crashed) in
       let v = rows-view d (bit (a .crashed)) (a .timers .0) (a .link .state) in
       let s = stored-bit (a .stored .some) (durableIn kept (recordsOf e))
-          ∙ ap (λ (x : rules.Durable). choose (a .stored .some) (some x) none) (rows-view e (bit (a .stored .some)) 0 0) in
+      ∙ ap (λ (x : rules.Durable). choose (a .stored .some) (some x) none) (rows-view e (bit (a .stored .some)) 0 0) in
       λ j. record { rules = rs; crashed = c j; timers = listed (a .timers .0); link = record { durable = v j; state = a .link .state }; storage = s j }
 
   module _ (l1 : durableLaid (a .link .durable) ≡ true) (l2 : storedLaid (a .stored) ≡ true) (hs : a .link .state ≤ lastState)
@@ -122,7 +122,8 @@ readable w p laid = record {
   head = laid .head;
 }
 
-pub stored-none : (k : List ℕ) (q : List (List ℕ)) (s : Stored) → getD k 5 0 ≡ 0 → s ≡ storedAs none → s ≡ storedAs (storedIn (getD k 5 0) (durableIn k q))
+pub stored-none : (k : List ℕ) (q : List (List ℕ)) (s : Stored) → getD k 5 0 ≡ 0 → s ≡ storedAs none
+    → s ≡ storedAs (storedIn (getD k 5 0) (durableIn k q))
 unfolding storedIn
 stored-none k q s e f = f ∙ ap (λ (n : ℕ). storedAs (storedIn n (durableIn k q))) (sym e)
 

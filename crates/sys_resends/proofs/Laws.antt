@@ -4,7 +4,7 @@ use Prim.Native.Nat.{ℕ, zero, suc, _+_, _-_, _≤_, _<_}
 use native.Mathlib.Omega.{arith}
 use native.Mathlib.Numerals.{add-one}
 use mathlib.Core.Path.{_≡_, refl, sym, ap, _∙_}
-use mathlib.Core.Bool.{Bool, true, false}
+use mathlib.Core.Bool.{true, false}
 use mathlib.Core.List.{List, [], _∷_, map}
 use lib.ListN.{length, take, drop, getD, length-map}
 use lib.Seq.{getD-take, length-take-le}
@@ -16,7 +16,7 @@ use Rattle.answers.specs.declared.Answer.the-variants.{Done}
 use Rattle.types.specs.declared.LastMessage.{LastMessage}
 use Rattle.types.specs.declared.LastMessage.the-variants as last
 use Rattle.types.specs.declared.Message.the-variants.{Deliver}
-use Rattle.rules.specs.Outcome.{Outcome, done, refused, Room}
+use Rattle.rules.specs.Outcome.{Room}
 use Rattle.rules.specs.Network.{send}
 use Rattle.rules.specs.Link.{Command, Send, resent}
 use Rattle.rules.specs.System.{Actor, withNet, runCommands}

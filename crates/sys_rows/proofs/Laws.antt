@@ -1,9 +1,9 @@
 -- Marks beside a durable part; what is settled and stored, as an actor.
 -- Assumes nothing.
-use Prim.Native.Nat.{ℕ, zero, suc, _+_, _≤_, _<_}
+use Prim.Native.Nat.{ℕ, _+_, _≤_, _<_}
 use native.Mathlib.Omega.{arith}
-use mathlib.Core.Path.{_≡_, refl, sym, ap, _∙_}
-use mathlib.Core.Option.{Option, none, some}
+use mathlib.Core.Path.{_≡_, sym, ap, _∙_}
+use mathlib.Core.Option.{Option, some}
 use mathlib.Core.List.{List, map}
 use lib.ListN.{length, take, drop, getD, set, length-set}
 use lib.Seq.{getD-set-same, getD-set-other, getD-drop, drop-set-lt}
@@ -94,7 +94,8 @@ module _ (w : List ℕ) (t s : ℕ) (room : length w ≡ rowSize) (laid : TailLa
   marked-tail =
       let e6 = at-timers in
       let e7 = at-state in
-      tail-marks w v laid (at-other 4 (λ z. omega arith) (λ z. omega arith)) (omega arith) (omega arith) (λ i. at-other (8 + i) (λ z. omega arith) (λ z. omega arith))
+      tail-marks w v laid (at-other 4 (λ z. omega arith) (λ z. omega arith)) (omega arith) (omega arith)
+      (λ i. at-other (8 + i) (λ z. omega arith) (λ z. omega arith))
 
 -- Commands are noted, then timers and state put in place.
 module _ (os : List InnerCommand) (w : List ℕ) (p : List (List ℕ)) (w1 : List ℕ) (p1 : List (List ℕ)) (t s : ℕ)
@@ -118,8 +119,9 @@ module _ (os : List InnerCommand) (w : List ℕ) (p : List (List ℕ)) (w1 : Lis
       }
 
 -- A change up to place 3.
-pub settled-low : (change : Durable → Durable) (w : List ℕ) (p : List (List ℕ)) (w' : List ℕ) (p' : List (List ℕ)) → RowsLaid w p → Turned change w p w' p'
-    → getD w' 1 0 ≤ getD w 1 0 → length w' ≡ rowSize → length p' ≡ mostPending → Settled (change (durableIn w p)) (getD w 6 0) (getD w 7 0) w w' p'
+pub settled-low : (change : Durable → Durable) (w : List ℕ) (p : List (List ℕ)) (w' : List ℕ) (p' : List (List ℕ)) → RowsLaid w p
+    → Turned change w p w' p' → getD w' 1 0 ≤ getD w 1 0 → length w' ≡ rowSize → length p' ≡ mostPending
+    → Settled (change (durableIn w p)) (getD w 6 0) (getD w 7 0) w w' p'
 settled-low change w p w' p' laid to few r1 r2 = record {
   durable = to .durable;
   crashed = tail-same w w' (to .after) 1;

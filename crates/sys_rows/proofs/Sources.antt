@@ -10,21 +10,23 @@ use lib.Seq.{getD-set-same, getD-set-other, getD-drop, drop-set-lt, drop-set-add
 use Rattle.lists.specs.Lists.{write}
 use Rattle.types.specs.Capacities.{mostActors}
 use Rattle.types.specs.declared.Number.{Number}
-use Rattle.rules.specs.Link.{Durable, untaken, noteTaken, withTaken}
+use Rattle.rules.specs.Link.{untaken, noteTaken, withTaken}
 use Rattle.link_rows.specs.Rows.{rowSize, pendingIn, numberIn, storageIn, durableIn}
 use Rattle.link_rows.proofs.Heads.{head-same}
-use Rattle.sys_rows.specs.Rows.{TailLaid, RowsLaid, Noticed}
+use Rattle.sys_rows.specs.Rows.{TailLaid, Noticed}
 use Rattle.sys_rows.proofs.Laws.{tail-at}
 
 -- Past the counted ones all are 0.
-within : (l : List ℕ) (k s v : ℕ) → s < k → s < length l → map numberIn (take k (set l s v)) ≡ write untaken s (record { 0 = v }) (map numberIn (take k l))
+within : (l : List ℕ) (k s v : ℕ) → s < k → s < length l
+    → map numberIn (take k (set l s v)) ≡ write untaken s (record { 0 = v }) (map numberIn (take k l))
 unfolding write
 within [] k s v h g = absurd (omega arith)
 within (x ∷ l) zero s v h g = absurd (omega arith)
 within (x ∷ l) (suc k) zero v h g = refl
 within (x ∷ l) (suc k) (suc s) v h g = ap (λ (r : List Number). record { 0 = x } ∷ r) (within l k s v (omega arith) (omega arith))
 
-beyond : (l : List ℕ) (k s v : ℕ) → k ≤ s → s < length l → ((i : ℕ) → k ≤ i → i < s → getD l i 0 ≡ 0) → map numberIn (take (suc s) (set l s v)) ≡ write untaken s (record { 0 = v }) (map numberIn (take k l))
+beyond : (l : List ℕ) (k s v : ℕ) → k ≤ s → s < length l → ((i : ℕ) → k ≤ i → i < s → getD l i 0 ≡ 0)
+    → map numberIn (take (suc s) (set l s v)) ≡ write untaken s (record { 0 = v }) (map numberIn (take k l))
 unfolding write
 beyond [] k s v h g z = absurd (omega arith)
 beyond (x ∷ l) zero zero v h g z = refl
@@ -33,7 +35,8 @@ beyond (x ∷ l) zero (suc s) v h g z =
     let f = beyond l zero s v (omega arith) (omega arith) (λ i a b. z (suc i) (omega arith) (omega arith)) in
     λ j. record { 0 = e j } ∷ f j
 beyond (x ∷ l) (suc k) zero v h g z = absurd (omega arith)
-beyond (x ∷ l) (suc k) (suc s) v h g z = ap (λ (r : List Number). record { 0 = x } ∷ r) (beyond l k s v (omega arith) (omega arith) (λ i a b. z (suc i) (omega arith) (omega arith)))
+beyond (x ∷ l) (suc k) (suc s) v h g z =
+    ap (λ (r : List Number). record { 0 = x } ∷ r) (beyond l k s v (omega arith) (omega arith) (λ i a b. z (suc i) (omega arith) (omega arith)))
 
 -- Another row with the same first words, the same marks, and these numbers last taken.
 noticed : (s v : ℕ) (w u : List ℕ) → length u ≡ length w → ((i : ℕ) → i < 4 → getD u i 0 ≡ getD w i 0) → getD u 5 0 ≡ getD w 5 0
@@ -110,7 +113,7 @@ module _ (w : List ℕ) (s v : ℕ) (room : length w ≡ rowSize) (hs : s < most
       let l = long in
       let c = count-of in
       let free : (i : ℕ) → getD w 4 0 ≤ i → i < s → getD (drop 8 w) i 0 ≡ 0 = λ i a b.
-          getD-drop 8 w i 0 ∙ ap (λ (k : ℕ). getD w k 0) (eight i) ∙ sym (tail-at w (4 + i)) ∙ laid .rest i (omega arith) (omega arith) in
+      getD-drop 8 w i 0 ∙ ap (λ (k : ℕ). getD w k 0) (eight i) ∙ sym (tail-at w (4 + i)) ∙ laid .rest i (omega arith) (omega arith) in
       noticed s v w t (length-set u 4 (s + 1) ∙ length-set w (8 + s) v) (λ i g. apart i (λ z. omega arith) (λ z. omega arith))
       (apart 5 (λ z. omega arith) (λ z. omega arith))
       (ap (λ (k : ℕ). map numberIn (take k (drop 8 t))) (counted ∙ add-one s)

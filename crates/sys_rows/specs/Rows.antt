@@ -7,13 +7,11 @@ use mathlib.Core.List.{List}
 use lib.ListN.{length, take, drop, getD, set, replicate}
 use Rattle.types.specs.Capacities.{mostPending, mostActors, lastState}
 use Rattle.types.specs.declared.Rule.{Rule}
-use Rattle.types.specs.declared.InnerCommand.{InnerCommand}
 use Rattle.rules.specs.Link.{Durable, withTaken}
 use Rattle.rules.specs.System.{Actor}
 use Rattle.link_timers.specs.Views.{listed}
 use Rattle.link_tables.specs.Rows.{mark}
 use Rattle.link_rows.specs.Rows.{rowSize, durableIn, HeadLaid}
-use Rattle.link_direct.specs.Direct.{noted}
 
 unfoldable pub storedIn : ℕ → Durable → Option Durable
 storedIn zero d = none

@@ -1,4 +1,4 @@
-// The rows of one actor: what a handler leaves of the live ones, and all of it stored.
+// The rows of one actor: what a handler leaves of the live ones, all of it stored, and loaded again for a start.
 use link_notes::note;
 use link_rows::RECORD;
 use link_rows::ROW;

@@ -5,8 +5,8 @@ use native.Mathlib.Omega.{arith}
 use mathlib.Core.Path.{_≡_, refl, sym, ap, _∙_, subst}
 use mathlib.Core.Bool.{Bool, true, false}
 use mathlib.Core.List.{List, [], _∷_, map}
-use lib.ListN.{length, take, getD, set, length-set, length-map}
-use lib.Seq.{getD-set-same, getD-set-other, length-take-le}
+use lib.ListN.{length, take, getD, set, length-set}
+use lib.Seq.{getD-set-same, getD-set-other}
 use lib.Dec.{leb, eqb}
 use borrow.Author.Tests.{le-leb, lt-leb, ne-eqb}
 use Rattle.lists.specs.Lists.{choose}
@@ -20,7 +20,7 @@ use Rattle.types.specs.declared.Message.the-variants.{Deliver}
 use Rattle.types.specs.declared.InnerCommand.{InnerCommand}
 use Rattle.types.specs.declared.Action.the-variants.{Timeout}
 use Rattle.answers.specs.declared.Answer.{Answer}
-use Rattle.answers.specs.declared.Answer.the-variants.{Done, Ignored, OutOfRange, NotSet, NetworkFull}
+use Rattle.answers.specs.declared.Answer.the-variants.{Done, Ignored, OutOfRange, NotSet}
 use Rattle.answers.specs.Answers.{answerNumber, isDone}
 use Rattle.rules.specs.Outcome.{Outcome, done, refused, bind, Room}
 use Rattle.rules.specs.Inner.{Reply, reply, ignored, nobody}
@@ -30,11 +30,11 @@ use Rattle.rules.specs.Link.{Command, resent}
 use Rattle.rules.specs.System.{Actor, Sys, systems, withNet, withTimers, runCommands, act}
 use Rattle.rules.proofs.Timers.{cancel-timers}
 use Rattle.link_timers.specs.declared.Timers.{Timers}
-use Rattle.link_timers.specs.Views.{bits, listed, cancelOf}
+use Rattle.link_timers.specs.Views.{listed, cancelOf}
 use Rattle.link_timers.proofs.Listed.{listed-timers, listed-cancel, word-small}
 use Rattle.net_rows.specs.declared.Sent.{Sent}
-use Rattle.net_rows.specs.Views.{netOf, roomOf, NetReady}
-use Rattle.link_tables.specs.Rows.{orders, replied, RowLaid, TableLaid, rulesIn, firstOf}
+use Rattle.net_rows.specs.Views.{netOf, roomOf}
+use Rattle.link_tables.specs.Rows.{orders, replied, TableLaid, rulesIn, firstOf}
 use Rattle.link_tables.proofs.Replies.{row-replies, none-ignored}
 use Rattle.link_rows.specs.Rows.{pendingIn, durableIn}
 use Rattle.sys_seat.specs.Seat.{Around, holding}

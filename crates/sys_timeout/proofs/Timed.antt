@@ -2,8 +2,8 @@
 -- Assumes nothing.
 use Prim.Native.Nat.{ℕ, suc}
 use native.Mathlib.Omega.{arith}
-use mathlib.Core.Path.{_≡_, refl, sym, ap, _∙_}
-use mathlib.Core.Bool.{Bool, true, false, not, _&&_, _||_, true≢false, false≢true}
+use mathlib.Core.Path.{_≡_, refl, ap, _∙_}
+use mathlib.Core.Bool.{Bool, true, false, not, _&&_, _||_, false≢true}
 use mathlib.Core.List.{List, [], _∷_}
 use lib.ListN.{getD}
 use lib.Dec.{leb, ltb, eqb}
@@ -21,8 +21,8 @@ use Rattle.rules.specs.Outcome.{Outcome, done, refused, bind, guard, ignoredIf}
 use Rattle.rules.specs.Inner.{reply, ignored, nobody}
 use Rattle.rules.specs.Timers.{isSet, setTimer, cancelTimer}
 use Rattle.rules.specs.Network.{Net}
-use Rattle.rules.specs.Link.{Command, Set, Output, Link, Did, output, timedBy, idling, timing, resent, resending, onTimeout}
-use Rattle.rules.specs.System.{Actor, Sys, systems, withTimers, withLink, onlySets, runCommands, act}
+use Rattle.rules.specs.Link.{Set, Output, Link, Did, output, timedBy, idling, timing, resent, resending, onTimeout}
+use Rattle.rules.specs.System.{Sys, systems, withTimers, withLink, onlySets, runCommands, act}
 use Rattle.link_timers.specs.Views.{bits, listed}
 use Rattle.link_timers.proofs.Listed.{Ascends, listed-ascends}
 use Rattle.net_rows.specs.Views.{netOf, roomOf}

@@ -115,9 +115,10 @@ fn on_user(
     let state = live[7];
     let cut = Timers(set).cancel(timer);
     let timers = cut.timers;
+    let rest = timers.0;
     let at = decides(table, rules, state, timer);
     if rules <= at {
-        live[6] = timers.0 as u64;
+        live[6] = rest as u64;
         return Sent {
             answer: Answer::Done,
             used: used,
@@ -134,7 +135,7 @@ fn on_user(
         kind,
         used,
         len,
-        timers.0,
+        rest,
         me,
         Id(0),
         timer as u32,

@@ -2,10 +2,10 @@
 -- Assumes nothing.
 use borrow.Author.Needs.{needs}
 use native.Mathlib.Omega.{arith}
-use Prim.Native.Nat.{ℕ, _≤_, _<_, _-_, _+_}
+use Prim.Native.Nat.{ℕ, _≤_, _-_}
 use mathlib.Core.Path.{_≡_, refl, sym, ap, _∙_}
 use mathlib.Core.List.{List, map}
-use lib.ListN.{length, take, getD, set}
+use lib.ListN.{length, take, getD, set, replicate}
 use lib.Seq.{length-take-le}
 use Rattle.lists.specs.Lists.{pad}
 use Rattle.lists.proofs.Places.{length-mapped}
@@ -19,14 +19,17 @@ use Rattle.link_layout.proofs.pending_rows.Statement.{statement}
 use Rattle.link_layout.proofs.pending_rows.Tie as tie
 
 abbrev Inv-loop : tie.InvT-loop
-Inv-loop records used rows₀ i₀ rows i = (used ≤ mostPending) × (i ≤ used) × (rows ≡ pad mostPending noRecord (map recordOf (take i records))) × Sendable rows i
+Inv-loop records used rows₀ i₀ rows i =
+    (used ≤ mostPending) × (i ≤ used) × (rows ≡ pad mostPending noRecord (map recordOf (take i records))) × Sendable rows i
 
 abbrev μ-loop : tie.MeasureT-loop
 μ-loop records used rows₀ i₀ rows i = used - i
 
 loop-holds : tie.Need-loop-holds Inv-loop μ-loop
 unfolding pad
-loop-holds c = (counts (c .before .before .args .d) (c .before .before .pre) .0, omega arith, refl, record { dst = λ i h. absurd (omega arith); payload = λ i h. absurd (omega arith) })
+loop-holds c =
+    let none : Sendable (replicate mostPending noRecord) 0 = record { dst = λ i h. absurd (omega arith); payload = λ i h. absurd (omega arith) } in
+    (counts (c .before .before .args .d) (c .before .before .pre) .0, omega arith, refl, none)
 
 mul-q : tie.Need-mul-q Inv-loop μ-loop
 mul-q c = search needs
@@ -55,10 +58,14 @@ loop-again c =
     let es = c .before .before .before .before .before .before .args .d .pending .records in
     let n : length es ≡ mostPending = search (needs, length-mapped) in
     let r = c .record-of .ensures in
-    let m = ap length (l .inv .2) ∙ filled recordOf mostPending noRecord es (l .i) (omega arith) in
-    (l .inv .0, omega arith, ap (λ (q : List ℕ). set (l .rows) (l .i) q) (r .0) ∙ ap (λ (q : List (List ℕ)). set q (l .i) (recordOf (getD es (l .i) zeroPending))) (l .inv .2)
-    ∙ grown recordOf mostPending noRecord es zeroPending (l .i) (omega arith) (omega arith),
-    rw (r .0) (sendable-more (l .rows) (l .i) _ (omega arith) (l .inv .3) (r .1) (r .2)))
+    let m = ap length (l .inv .2) ∙ filled recordOf mostPending noRecord es (l .i) (omega arith) in (
+      l .inv .0,
+      omega arith,
+      ap (λ (q : List ℕ). set (l .rows) (l .i) q) (r .0)
+          ∙ ap (λ (q : List (List ℕ)). set q (l .i) (recordOf (getD es (l .i) zeroPending))) (l .inv .2)
+          ∙ grown recordOf mostPending noRecord es zeroPending (l .i) (omega arith) (omega arith),
+      rw (r .0) (sendable-more (l .rows) (l .i) _ (omega arith) (l .inv .3) (r .1) (r .2)),
+    )
 
 returns : tie.Need-returns Inv-loop μ-loop
 returns c =

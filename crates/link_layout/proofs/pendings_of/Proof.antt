@@ -2,10 +2,10 @@
 -- Assumes nothing.
 use borrow.Author.Needs.{needs}
 use native.Mathlib.Omega.{arith}
-use Prim.Native.Nat.{ℕ, _≤_, _<_, _-_, _+_}
-use mathlib.Core.Path.{_≡_, refl, sym, ap, _∙_}
+use Prim.Native.Nat.{_≤_, _-_}
+use mathlib.Core.Path.{_≡_, ap, _∙_}
 use mathlib.Core.List.{List, [], map}
-use lib.ListN.{length, take, getD, set, replicate}
+use lib.ListN.{take, getD, set, replicate}
 use Rattle.lists.specs.Lists.{pad}
 use Rattle.types.specs.Capacities.{mostPending}
 use Rattle.types.specs.declared.Pending.{Pending}
@@ -77,9 +77,12 @@ loop-again : tie.Need-loop-again Inv-loop μ-loop
 unfolding pendingIn
 loop-again c =
     let l = c .before .before .before .before .before .loop in
-    let ps = c .before .before .before .before .before .before .before .args .rows .now in
-    (omega arith, ap (λ (q : Pending). set (l .records) (l .i) q) (c .pending-of2 .ensures) ∙ ap (λ (q : List Pending). set q (l .i) (pendingIn (getD ps (l .i) []))) (l .inv .1)
-    ∙ grown pendingIn mostPending zeroPending ps [] (l .i) (omega arith) (omega arith))
+    let ps = c .before .before .before .before .before .before .before .args .rows .now in (
+      omega arith,
+      ap (λ (q : Pending). set (l .records) (l .i) q) (c .pending-of2 .ensures)
+          ∙ ap (λ (q : List Pending). set q (l .i) (pendingIn (getD ps (l .i) []))) (l .inv .1)
+          ∙ grown pendingIn mostPending zeroPending ps [] (l .i) (omega arith) (omega arith),
+    )
 
 returns : tie.Need-returns Inv-loop μ-loop
 returns c =

@@ -2,10 +2,10 @@
 -- Assumes nothing.
 use borrow.Author.Needs.{needs}
 use native.Mathlib.Omega.{arith}
-use Prim.Native.Nat.{ℕ, _≤_, _<_, _-_, _+_}
-use mathlib.Core.Path.{_≡_, refl, sym, ap, _∙_}
+use Prim.Native.Nat.{ℕ, _≤_, _-_}
+use mathlib.Core.Path.{_≡_, sym, ap, _∙_}
 use mathlib.Core.List.{List, map}
-use lib.ListN.{length, take, drop, getD, set, length-drop}
+use lib.ListN.{take, drop, getD, set, length-drop}
 use lib.Seq.{getD-drop}
 use Rattle.lists.specs.Lists.{pad}
 use Rattle.types.specs.Capacities.{mostActors}
@@ -51,9 +51,12 @@ loop-again : tie.Need-loop-again Inv-loop μ-loop
 loop-again c =
     let l = c .before .before .loop in
     let w = c .before .before .before .args .row .now in
-    let n = length-drop 8 w in
-    (omega arith, ap (λ (k : ℕ). set (l .last) (l .i) (numberIn k)) (sym (getD-drop 8 w (l .i) 0)) ∙ ap (λ (q : List Number). set q (l .i) (numberIn (getD (drop 8 w) (l .i) 0))) (l .inv .1)
-    ∙ grown numberIn mostActors untaken (drop 8 w) 0 (l .i) (omega arith) (omega arith))
+    let n = length-drop 8 w in (
+      omega arith,
+      ap (λ (k : ℕ). set (l .last) (l .i) (numberIn k)) (sym (getD-drop 8 w (l .i) 0))
+          ∙ ap (λ (q : List Number). set q (l .i) (numberIn (getD (drop 8 w) (l .i) 0))) (l .inv .1)
+          ∙ grown numberIn mostActors untaken (drop 8 w) 0 (l .i) (omega arith) (omega arith),
+    )
 
 returns : tie.Need-returns Inv-loop μ-loop
 returns c =

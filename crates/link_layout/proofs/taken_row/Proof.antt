@@ -2,8 +2,8 @@
 -- Assumes nothing.
 use borrow.Author.Needs.{needs}
 use native.Mathlib.Omega.{arith}
-use Prim.Native.Nat.{ℕ, _≤_, _<_, _-_, _+_}
-use mathlib.Core.Path.{_≡_, refl, sym, ap, _∙_}
+use Prim.Native.Nat.{ℕ, _≤_, _-_, _+_}
+use mathlib.Core.Path.{_≡_, sym, ap, _∙_}
 use mathlib.Core.List.{List}
 use lib.ListN.{length, take, getD, set}
 use Rattle.lists.specs.Lists.{pad}
@@ -50,8 +50,11 @@ loop-again : tie.Need-loop-again Inv-loop μ-loop
 loop-again c =
     let l = c .before .before .loop in
     let es = c .before .before .before .before .args .t .last in
-    let n : length es ≡ mostActors = search (needs, length-mapped) in
-    (omega arith, ap (λ (q : List ℕ). set q (8 + l .i) (getD es (l .i) untaken .0)) (l .inv .1) ∙ grown-after es untaken (l .i) (omega arith) (omega arith))
+    let n : length es ≡ mostActors = search (needs, length-mapped) in (
+      omega arith,
+      ap (λ (q : List ℕ). set q (8 + l .i) (getD es (l .i) untaken .0)) (l .inv .1)
+          ∙ grown-after es untaken (l .i) (omega arith) (omega arith),
+    )
 
 returns : tie.Need-returns Inv-loop μ-loop
 returns c =

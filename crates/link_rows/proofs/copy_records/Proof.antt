@@ -1,9 +1,8 @@
 -- `link_rows::copy_records` meets its contract. Below i the records are those of the other, and one more is put at i.
 -- Assumes nothing.
-use Prim.Native.Nat.{_≤_, _<_, _-_, _+_}
+use Prim.Native.Nat.{_≤_, _-_}
 use native.Mathlib.Omega.{arith}
-use mathlib.Core.Path.{_≡_, refl, ap}
-use mathlib.Core.List.{List}
+use mathlib.Core.Path.{_≡_, refl}
 use lib.ListN.{length, take}
 use borrow.Author.Needs.{needs}
 use Rattle.link_rows.proofs.Heads.{copied-more}

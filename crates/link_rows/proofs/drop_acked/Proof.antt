@@ -1,3 +1,5 @@
+-- `link_rows::drop_acked` meets its contract. The place of the record is looked for: past the count nothing changes, else it is taken out.
+-- Assumes nothing.
 use native.Mathlib.Omega.{arith}
 use Prim.Native.Nat.{_-_}
 use lib.ListN.{getD}
@@ -42,9 +44,11 @@ returns-2 c =
     let s = c .before .before .before .before .before .before .before .before in
     let w = s .args .live .now in
     let at = c .before .before .before .before .pending-place in
-    let gone = c .before .remove-at in
-    (turned-ack w (s .args .pend .now) (s .args .number) (s .pre .0) (s .pre .1) (at .result) (at .ensures) (c .before .before .before .if1 .left)
-    (gone .last .0) (gone .ensures), omega (arith, count-set w (getD w 1 0 - 1) (s .pre .0)))
+    let gone = c .before .remove-at in (
+      turned-ack w (s .args .pend .now) (s .args .number) (s .pre .0) (s .pre .1) (at .result) (at .ensures) (c .before .before .before .if1 .left)
+          (gone .last .0) (gone .ensures),
+      omega (arith, count-set w (getD w 1 0 - 1) (s .pre .0)),
+    )
 
 pub drop-acked-spec : {M : Type 1} → statement M
 drop-acked-spec =

@@ -1,3 +1,5 @@
+-- `link_rows::pending_place` meets its contract. Below i no record has the number.
+-- Assumes nothing.
 use borrow.Author.Needs.{needs}
 use native.Mathlib.Omega.{arith}
 use Prim.Native.Nat.{ℕ, _≤_, _<_, _-_}
@@ -34,7 +36,8 @@ returns : tie.Need-returns Inv-loop μ-loop
 returns c =
     let s = c .before .before .before .before in
     let l = c .before .before .before .loop in
-    lead-first (other (s .args .number)) (s .args .pend .now) (s .args .used) (l .i) [] (s .pre) (l .inv .0) (l .inv .1) (λ h. ap not (eq-eqb _ _ (sym (c .if1 .taken))))
+    lead-first (other (s .args .number)) (s .args .pend .now) (s .args .used) (l .i) [] (s .pre) (l .inv .0) (l .inv .1)
+    (λ h. ap not (eq-eqb _ _ (sym (c .if1 .taken))))
 
 add-i : tie.Need-add-i Inv-loop μ-loop
 add-i c = search needs

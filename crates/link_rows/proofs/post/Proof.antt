@@ -1,3 +1,5 @@
+-- `link_rows::post` meets its contract. Two words are set and one record is put at the place of the count.
+-- Assumes nothing.
 use Rattle.link_rows.proofs.Laws.{turned-post, posted-count}
 use borrow.Author.Needs.{needs}
 use Rattle.link_rows.proofs.post.Statement.{statement}

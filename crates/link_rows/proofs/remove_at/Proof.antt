@@ -1,3 +1,5 @@
+-- `link_rows::remove_at` meets its contract. Without what stands at i, the records are those that came without what stands at the place.
+-- Assumes nothing.
 use borrow.Author.Needs.{needs}
 use native.Mathlib.Omega.{arith}
 use Prim.Native.Nat.{_≤_, _<_, _-_}

@@ -1,3 +1,5 @@
+-- `link_rows::save_value` meets its contract. Two words are set.
+-- Assumes nothing.
 use Rattle.link_rows.proofs.Laws.{turned-value, valued-count}
 use borrow.Author.Needs.{needs}
 use Rattle.link_rows.proofs.save_value.Statement.{statement}

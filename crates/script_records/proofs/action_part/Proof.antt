@@ -67,8 +67,8 @@ returns-6 c =
     let a = c .before .before .before .before .before .before .before .args in
     let e = c .before .envelope-part in (
       λ xs h. c .with-envelope .ensures ∙ ap (withEnvelope _) (e .ensures .0 xs h)
-          ∙ sym (envelope-kind xs (a .f) (c .before .before .before .before .before .before .cut8 .ensures xs h) (c .before .before .before .before .if1 .left)
-          (omega arith) (omega arith)),
+          ∙ sym (envelope-kind xs (a .f) (c .before .before .before .before .before .before .cut8 .ensures xs h)
+          (c .before .before .before .before .if1 .left) (omega arith) (omega arith)),
       with-end _ (e .result) (c .with-envelope .ensures) (e .ensures .1),
     )
 

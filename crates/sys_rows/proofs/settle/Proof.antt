@@ -1,13 +1,11 @@
-use native.Mathlib.Omega.{arith}
-use mathlib.Core.Path.{_≡_, subst, sym}
-use mathlib.Core.List.{List}
-use Prim.Native.Nat.{ℕ, _<_}
+-- `sys_rows::settle` meets its contract. The commands are noted; the marks stand aside of the durable part.
+-- Assumes nothing.
+use mathlib.Core.Path.{_≡_}
+use Prim.Native.Nat.{_<_}
 use lib.ListN.{length}
 use Rattle.types.specs.Capacities.{mostPending}
 use Rattle.link_tables.specs.Rows.{orders}
-use Rattle.link_direct.specs.Direct.{noted}
-use Rattle.link_rows.specs.Rows.{rowSize, durableIn}
-use Rattle.sys_rows.specs.Rows.{Settled}
+use Rattle.link_rows.specs.Rows.{rowSize}
 use Rattle.sys_rows.proofs.Laws.{settled}
 use borrow.Author.Needs.{needs}
 use Rattle.sys_rows.proofs.settle.Statement.{statement}

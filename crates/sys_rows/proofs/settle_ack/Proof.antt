@@ -1,3 +1,5 @@
+-- `sys_rows::settle_ack` meets its contract. The change is up to place 3, so all else stays.
+-- Assumes nothing.
 use mathlib.Core.Path.{_≡_}
 use lib.ListN.{length}
 use Rattle.types.specs.Capacities.{mostPending}

@@ -1,3 +1,5 @@
+-- `sys_rows::take_number` meets its contract. By whether the source is among those that are counted.
+-- Assumes nothing.
 use native.Mathlib.Omega.{arith}
 use Rattle.sys_rows.proofs.Sources.{count-kept, noticed-within, noticed-beyond}
 use borrow.Author.Needs.{needs}
@@ -26,13 +28,21 @@ same-length : tie.Need-same-length
 same-length c = search needs
 
 returns : tie.Need-returns
-returns c = let s = (c .before .before) in let a = s .args in let z = count-kept (a .live .now) (a .source) (a .number) (s .pre .0) (s .pre .1) (s .pre .2) in noticed-beyond (a .live .now) (a .source) (a .number) (s .pre .0) (s .pre .1) (s .pre .2) (omega arith)
+returns c =
+    let s = (c .before .before) in
+    let a = s .args in
+    let z = count-kept (a .live .now) (a .source) (a .number) (s .pre .0) (s .pre .1) (s .pre .2) in
+    noticed-beyond (a .live .now) (a .source) (a .number) (s .pre .0) (s .pre .1) (s .pre .2) (omega arith)
 
 same-length-2 : tie.Need-same-length-2
 same-length-2 c = search needs
 
 returns-2 : tie.Need-returns-2
-returns-2 c = let s = (c .before .before) in let a = s .args in let z = count-kept (a .live .now) (a .source) (a .number) (s .pre .0) (s .pre .1) (s .pre .2) in noticed-within (a .live .now) (a .source) (a .number) (s .pre .0) (s .pre .1) (s .pre .2) (omega arith)
+returns-2 c =
+    let s = (c .before .before) in
+    let a = s .args in
+    let z = count-kept (a .live .now) (a .source) (a .number) (s .pre .0) (s .pre .1) (s .pre .2) in
+    noticed-within (a .live .now) (a .source) (a .number) (s .pre .0) (s .pre .1) (s .pre .2) (omega arith)
 
 pub take-number-spec : {M : Type 1} → statement M
 take-number-spec =

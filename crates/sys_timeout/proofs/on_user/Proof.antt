@@ -1,6 +1,6 @@
 -- The timer goes; then the commands of the rule that decides, if one does.
 use native.Mathlib.Omega.{arith}
-use Prim.Native.Nat.{_≤_, _<_}
+use Prim.Native.Nat.{_<_}
 use mathlib.Core.Path.{ap}
 use mathlib.Core.List.{[]}
 use lib.ListN.{getD}
@@ -42,12 +42,12 @@ element-write-live c = search needs
 
 returns : tie.Need-returns
 returns c =
-    let s = c .before .before .before .before .before .before .before in
+    let s = c .before .before .before .before .before .before in
     let a = s .args in
     let w = a .live .now in
-    let cut = c .before .before .before .before .cancel in
-    let d = c .before .before .decides in
-    let i = place-idle (getD w 7 0) (a .timer) (a .table .now) (a .rules) (d .result) (s .pre .1) (d .ensures) (c .before .if1 .taken) in
+    let cut = c .before .before .before .cancel in
+    let d = c .before .decides in
+    let i = place-idle (getD w 7 0) (a .timer) (a .table .now) (a .rules) (d .result) (s .pre .1) (d .ensures) (c .if1 .taken) in
     λ count.
     idle (a .me) count (rulesIn (a .table .now) (a .rules)) (a .kind) (a .used) (a .len)
     (rowsOf (a .c .now) w (a .pend .now) (a .kept .now) (a .stored .now)) (s .pre .0) (a .timer) (s .pre .2) (s .pre .3)
