@@ -23,12 +23,14 @@ use Rattle.net_cells.specs.Cells.{cellOf, entryOf}
 use Rattle.net_layout.specs.Layout.{LaidOut, Readable}
 use Rattle.net_layout.proofs.Laws.{out-room, out-used, out-entries}
 use Rattle.net_rows.specs.declared.Sent.{Sent}
-use Rattle.net_rows.specs.Views.{netOf, roomOf, Changed}
+use Rattle.net_rows.specs.Views.{netOf, roomOf, Changed, Makes}
 use Rattle.net_rows.specs.Views as rows
 use Rattle.net_rows.proofs.Ready as kept
 use Rattle.net_network.specs.declared.Network.{Network}
+use Rattle.net_network.specs.declared.Change.{Change}
+use Rattle.net_network.specs.declared.Change.the-variants.{Send, Deliver, Drop}
 use Rattle.net_network.specs.Views.{zeroEntry, entryList, netView, networkOf, NetLaid, NetReady, back, sentOf}
-use Rattle.net_network.specs.Parts.{readBack, lastAfter}
+use Rattle.net_network.specs.Parts.{readBack, outcomeOf, lastAfter}
 
 module _ (n : Network) (laid : NetLaid n) where
   pub used-is : length (entryList n) ≡ n .used
@@ -94,17 +96,18 @@ delivering-kind e m = go (isDuplicating (m .kind))
     go true = refl
     go false = refl
 
-delivering-last : (e : Envelope) (m : Net) → delivering e m .last ≡ lastAfter (m .kind) e (m .last)
+delivering-last : (e : Envelope) (m : Net) → delivering e m .last ≡ lastAfter Deliver (m .kind) e (m .last)
 unfolding delivering dropping choose isDuplicating
 delivering-last e m = go (m .kind)
   where
     go : (k : Kind)
-        → choose (isDuplicating k) (record { kind = m .kind; entries = m .entries; last = Delivered e }) (dropping e m) .last ≡ lastAfter k e (m .last)
+        → choose (isDuplicating k) (record { kind = m .kind; entries = m .entries; last = Delivered e }) (dropping e m) .last
+        ≡ lastAfter Deliver k e (m .last)
     go Ordered = refl
     go UnorderedDuplicating = refl
     go UnorderedNonDuplicating = refl
 
-refused-last : (k : Kind) (e : Envelope) (last : LastMessage) (b : Bool) → (isDuplicating k || b) ≡ false → lastAfter k e last ≡ last
+refused-last : (k : Kind) (e : Envelope) (last : LastMessage) (b : Bool) → (isDuplicating k || b) ≡ false → lastAfter Deliver k e last ≡ last
 unfolding isDuplicating
 refused-last Ordered e last b h = refl
 refused-last UnorderedDuplicating e last b h = absurd (true≢false h)
@@ -151,24 +154,38 @@ module _
   before : rows.NetReady (n .kind) cs (n .used) count
   before = cells-ready n ready cs out count sum
 
-  pub send-back : (e : Envelope) → Made (send (roomOf cs) e here) → LaidBack (n .last) (send (base .room) e (netView n))
+  send-back : (e : Envelope) → Made (send (roomOf cs) e here) → LaidBack (n .last) (send (base .room) e (netView n))
   unfolding send sending
   send-back e c = (
     readable-by c (unfold send sending in kept.send-ready (n .kind) (n .last) cs (n .used) count before s cs' e c),
     guarded-back _ 8 _ (n .last) refl refl (λ _. refl) (as-struct (λ r m. send r e m) c),
   )
 
-  pub drop-back : (e : Envelope) → Made (onDrop e here) → LaidBack (n .last) (onDrop e (netView n))
+  drop-back : (e : Envelope) → Made (onDrop e here) → LaidBack (n .last) (onDrop e (netView n))
   unfolding onDrop dropping
   drop-back e c = (
     readable-by c (unfold onDrop dropping in kept.drop-ready (n .kind) (n .last) cs (n .used) count before s cs' e c),
     guarded-back _ 3 _ (n .last) refl refl (λ _. refl) (as-struct (λ r m. onDrop e m) c),
   )
 
-  pub deliver-back : (e : Envelope) → Made (onDeliver e here) → LaidBack (lastAfter (n .kind) e (n .last)) (onDeliver e (netView n))
+  deliver-back : (e : Envelope) → Made (onDeliver e here) → LaidBack (lastAfter Deliver (n .kind) e (n .last)) (onDeliver e (netView n))
   unfolding onDeliver
   deliver-back e c = (
     readable-by c (unfold onDeliver in kept.deliver-ready (n .kind) (n .last) cs (n .used) count before s cs' e c),
     guarded-back _ 3 (delivering e (netView n)) _ (delivering-kind e (netView n)) (delivering-last e (netView n))
         (refused-last (n .kind) e (n .last) (present e (netView n))) (as-struct (λ r m. onDeliver e m) c),
   )
+
+  pub change-back
+      : (what : Change) (e : Envelope) → Made (outcomeOf what (roomOf cs) e here)
+      → LaidBack (lastAfter what (n .kind) e (n .last)) (outcomeOf what (base .room) e (netView n))
+  change-back Send e c = send-back e c
+  change-back Deliver e c = deliver-back e c
+  change-back Drop e c = drop-back e c
+
+-- the change as the caller names it
+pub change-as
+    : {cs cs' : List (List ℕ)} {used n : ℕ} {s : Sent} {what w : Change} (k : Kind) (e : Envelope) → what ≡ w
+    → Makes (outcomeOf w (roomOf cs) e) k cs used n s cs' → Makes (outcomeOf what (roomOf cs) e) k cs used n s cs'
+change-as {cs} {cs'} {used} {n} {s} k e q c last =
+    subst (λ (v : Change). Changed cs used n (outcomeOf v (roomOf cs) e (netOf k last cs used)) s cs') (sym q) (c last)

@@ -17,8 +17,10 @@ ghost use Rattle.types.specs.Capacities.{mostEntries, mostCopies};
 ghost use Rattle.rules.specs.Outcome.{base};
 ghost use Rattle.rules.specs.Network.{send, onDeliver, onDrop, len};
 ghost use Rattle.net_layout.specs.Layout.{Readable};
+ghost use Rattle.net_rows.specs.Views.{roomOf, Makes};
+ghost use Rattle.net_rows.specs.Views as rows;
 ghost use Rattle.net_network.specs.Views.{entryList, netView, networkOf, NetReady, back, sentOf};
-ghost use Rattle.net_network.specs.Parts.{readBack, lastAfter};
+ghost use Rattle.net_network.specs.Parts.{readBack, outcomeOf, lastAfter};
 
 // Places from the used count on hold the zero entry.
 pub struct Network {
@@ -87,59 +89,81 @@ fn laid_back(answer: Answer, kind: Kind, c: &[[u64; 4]], used: usize, last: Last
     }
 }
 
-pub fn send(n: Network, e: Envelope) -> Sent
+// The changes of a network.
+enum Change {
+    Send,
+    Deliver,
+    Drop,
+}
+
+// A change of the cells.
+fn change_cells(
+    c: &mut [[u64; 4]],
+    what: Change,
+    kind: Kind,
+    used: usize,
+    count: u64,
+    e: Envelope,
+) -> net_rows::Sent
+    requires { ⌜ rows.NetReady kind (now c) used count ⌝ }
+    ensures { λ r. ⌜ Makes (outcomeOf what (roomOf (now (c .entry))) e) kind (now (c .entry)) used count r (now (c .exit)) ⌝ }
+{
+    match what {
+        Change::Send => net_rows::send(c, kind, used, count, e),
+        Change::Deliver => net_rows::on_deliver(c, kind, used, count, e),
+        Change::Drop => net_rows::on_drop(c, kind, used, count, e),
+    }
+}
+
+// The last message after a change. A Deliver is never refused on the duplicating kind.
+fn last_after(what: Change, kind: Kind, e: Envelope, last: LastMessage) -> LastMessage
+    ensures { λ r. ⌜ r ≡ lastAfter what kind e last ⌝ }
+{
+    match what {
+        Change::Send => last,
+        Change::Deliver => match kind {
+            Kind::Ordered => last,
+            Kind::UnorderedDuplicating => LastMessage::Delivered(e),
+            Kind::UnorderedNonDuplicating => last,
+        },
+        Change::Drop => last,
+    }
+}
+
+// Laid out, changed in place, laid back.
+fn made(n: Network, what: Change, e: Envelope) -> Sent
     requires { ⌜ NetReady n ⌝ }
-    ensures { λ r. ⌜ r ≡ sentOf n (send (base .room) e (netView n)) ⌝ }
+    ensures { λ r. ⌜ r ≡ sentOf n (outcomeOf what (base .room) e (netView n)) ⌝ }
 {
     let kind = n.kind;
     let es = n.entries;
     let used = n.used;
-    let last = n.last;
+    let before = n.last;
+    let last = last_after(what, kind, e, before);
     let count = len(n);
     let mut cells = cells_of(es, used);
-    let s = net_rows::send(&mut cells, kind, used, count, e);
+    let s = change_cells(&mut cells, what, kind, used, count, e);
     let answer = s.answer;
     laid_back(answer, kind, &cells, s.used, last)
 }
 
-pub fn on_drop(n: Network, e: Envelope) -> Sent
+pub fn send(n: Network, e: Envelope) -> Sent
     requires { ⌜ NetReady n ⌝ }
-    ensures { λ r. ⌜ r ≡ sentOf n (onDrop e (netView n)) ⌝ }
+    ensures { λ r. ⌜ r ≡ sentOf n (send (base .room) e (netView n)) ⌝ }
 {
-    let kind = n.kind;
-    let es = n.entries;
-    let used = n.used;
-    let kept = n.last;
-    let count = len(n);
-    let mut cells = cells_of(es, used);
-    let s = net_rows::on_drop(&mut cells, kind, used, count, e);
-    let answer = s.answer;
-    laid_back(answer, kind, &cells, s.used, kept)
-}
-
-// The last message after a Deliver: on the duplicating kind, where none is refused, it is this one.
-fn last_after(kind: Kind, e: Envelope, last: LastMessage) -> LastMessage
-    ensures { λ r. ⌜ r ≡ lastAfter kind e last ⌝ }
-{
-    match kind {
-        Kind::Ordered => last,
-        Kind::UnorderedDuplicating => LastMessage::Delivered(e),
-        Kind::UnorderedNonDuplicating => last,
-    }
+    made(n, Change::Send, e)
 }
 
 pub fn on_deliver(n: Network, e: Envelope) -> Sent
     requires { ⌜ NetReady n ⌝ }
     ensures { λ r. ⌜ r ≡ sentOf n (onDeliver e (netView n)) ⌝ }
 {
-    let kind = n.kind;
-    let es = n.entries;
-    let used = n.used;
-    let before = n.last;
-    let last = last_after(kind, e, before);
-    let count = len(n);
-    let mut cells = cells_of(es, used);
-    let s = net_rows::on_deliver(&mut cells, kind, used, count, e);
-    let answer = s.answer;
-    laid_back(answer, kind, &cells, s.used, last)
+    made(n, Change::Deliver, e)
+}
+
+pub fn on_drop(n: Network, e: Envelope) -> Sent
+    requires { ⌜ NetReady n ⌝ }
+    ensures { λ r. ⌜ r ≡ sentOf n (onDrop e (netView n)) ⌝ }
+{
+    made(n, Change::Drop, e)
 }
