@@ -29,7 +29,8 @@ isDone a = eqb (answerNumber a) 0
 -- In the order of their numbers.
 abbrev pub allAnswers : List Answer
 allAnswers =
-    Done ∷ Ignored ∷ OutOfRange ∷ Absent ∷ Live ∷ NotSet ∷ NumbersUsedUp ∷ PendingFull ∷ NetworkFull ∷ NotWellFormed ∷ StartRefused ∷ Unreadable
+    Done ∷ Ignored ∷ OutOfRange ∷ Absent ∷ Live ∷ NotSet ∷ NumbersUsedUp ∷ PendingFull ∷ NetworkFull ∷ NotWellFormed ∷ StartRefused
+    ∷ Unreadable
     ∷ UnknownName ∷ []
 
 -- The answer with a number. What is no answer's number is told as a refusal that no step and no start gives, and so never as Done.

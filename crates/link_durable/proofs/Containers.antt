@@ -34,7 +34,8 @@ pub record Laid {A : Type 0} (n : ℕ) (z : A) (es : List A) (used : ℕ) : Type
   pub rest : es ≡ pad n z (take used es)
 
 module _ {A : Type 0} (p : A → Bool) (z : A) where
-  laid-is : ((x : A) → p x ≡ true → x ≡ z) → (n : ℕ) (es : List A) (used : ℕ) → length es ≡ n → every (leb used n ∷ all p (drop used es) ∷ []) ≡ true
+  laid-is : ((x : A) → p x ≡ true → x ≡ z) → (n : ℕ) (es : List A) (used : ℕ) → length es ≡ n
+      → every (leb used n ∷ all p (drop used es) ∷ []) ≡ true
       → Laid n z es used
   unfolding pad
   laid-is only n es used h e =
@@ -130,11 +131,13 @@ pub durable-parts : (d : Durable) → durableLaid d ≡ true → (pendingsLaid (
 unfolding durableLaid
 durable-parts d e = let a = every-cons _ _ e in (a .0, every-cons _ _ (a .1) .0)
 
-pub durable-is : (d : Durable) → length (d .pending .records) ≡ mostPending → length (d .taken .last) ≡ mostActors → durableLaid d ≡ true → DurableLaid d
+pub durable-is : (d : Durable) → length (d .pending .records) ≡ mostPending → length (d .taken .last) ≡ mostActors → durableLaid d ≡ true
+    → DurableLaid d
 durable-is d n m e = let a = durable-parts d e in record { pendings = pendings-are (d .pending) n (a .0); numbers = taken-are (d .taken) m (a .1) }
 
 -- What a part that is laid out holds fits.
-pub durable-small : (d : Durable) → durableLaid d ≡ true → (length (pendingList (d .pending)) ≤ mostPending) × (length (takenList (d .taken)) ≤ mostActors)
+pub durable-small : (d : Durable) → durableLaid d ≡ true → (length (pendingList (d .pending)) ≤ mostPending)
+    × (length (takenList (d .taken)) ≤ mostActors)
 unfolding pendingsLaid takenLaid
 durable-small d e =
     let h = durable-parts d e in

@@ -100,7 +100,8 @@ blank-is r n e =
     let e1 = eqb-true (r .event) 0 (a .0) in let e2 = eqb-true (r .state) 0 (b .0) in
     let e3 = eqb-true (r .low) 0 (c .0) in let e4 = eqb-true (r .high) 0 (d .0) in
     let e5 = not-true (r .touched) (f .0) in let e6 = eqb-true (r .next) 0 (g .0) in let e7 = eqb-true (r .used) 0 (h .0) in
-    let e8 : r .commands ≡ replicate mostCommands zeroSlot = all-same unused zeroSlot zero-slot (r .commands) (k .0) ∙ ap (λ (m : ℕ). replicate m zeroSlot) n in
+    let e8 : r .commands ≡ replicate mostCommands zeroSlot = all-same unused zeroSlot zero-slot (r .commands) (k .0)
+    ∙ ap (λ (m : ℕ). replicate m zeroSlot) n in
     λ i. record { event = e1 i; state = e2 i; low = e3 i; high = e4 i; touched = e5 i; next = e6 i; commands = e8 i; used = e7 i }
 
 pub zero-blank : blankRule zeroRule ≡ true

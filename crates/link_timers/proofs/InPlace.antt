@@ -15,7 +15,8 @@ use base.Fml.{GName, Lft, Share, ftrue, flft, fobs, fbor, fat}
 use prog.Wp.{Heap, Calls, Loops, WpFn, Tables}
 use ghost.Atoms.{Atoms, sem}
 use contract.Monad.{fact}
-use types.Kit.{Given, ‵, raw, _⊛_, some, later, _$_, _∵_, !, qed, by, move, keep, drop, use1, split, join, pick, rewrite, fsplit, fsplit3, fjoin, fjoin3, feqI}
+use types.Kit.{Given, ‵, raw, _⊛_, some, later, _$_, _∵_, !, qed, by, move, keep, drop, use1, split, join, pick, rewrite, fsplit, fsplit3, fjoin, fjoin3}
+use types.Kit.{feqI}
 use types.Kit.{suffices, frame, await, done}
 use types.Run.{look, init, store, forget, stop, hop, fld, from, load, of-opd, and-then, no-more, assigns, land, returns, enter, alloc1, alloc0, params1, pass1}
 use types.Run.{pass0, free1, free0}
@@ -55,7 +56,8 @@ inPlace g = record {
   outlives = [];
   params = 2;
   locals =
-      local tyBool valueLocal ∷ local (tyRef (named 0) mut (pointee (T.the-row .written))) valueLocal ∷ local (tyInt w8) valueLocal ∷ local TC′.mir valueLocal
+      local tyBool valueLocal ∷ local (tyRef (named 0) mut (pointee (T.the-row .written))) valueLocal ∷ local (tyInt w8) valueLocal
+      ∷ local TC′.mir valueLocal
       ∷ local T′.mir valueLocal ∷ [];
   body = seq (assign (place 4 []) (rvOpd (copy (place 1 (deref T′.mir ∷ [])))))
       (seq (call g (copy (place 4 []) ∷ copy (place 2 []) ∷ []) (place 3 []))
@@ -86,7 +88,8 @@ module _ {M : Type 1} (𝓤 : URA M) (H : Heap 𝓤) (A : Atoms 𝓤) (of : Time
     ensures = λ _ r e. fact 𝓤 ((e .0 .now ≡ of (a .0 .now) (a .1 .0) .timers) × (r ≡ of (a .0 .now) (a .1 .0) .changed));
   }
 
-module _ {M : Type 1} (𝓤 : URA M) (H : Heap 𝓤) (A : Atoms 𝓤) (W : Given 𝓤 H A) (of : Timers → ℕ → Change) (κ : Lft) (q : Share) (b o : ℕ) (γ : GName)
+module _ {M : Type 1} (𝓤 : URA M) (H : Heap 𝓤) (A : Atoms 𝓤) (W : Given 𝓤 H A) (of : Timers → ℕ → Change) (κ : Lft) (q : Share) (b o : ℕ)
+    (γ : GName)
     (h : Timers) (n : ℕ) where
   abbrev x : RefT Timers × (ℕ × Unit {0})
   x = (record { ptr = (b, o); name = γ; now = h }, (n, tt))
@@ -101,13 +104,15 @@ module _ {M : Type 1} (𝓤 : URA M) (H : Heap 𝓤) (A : Atoms 𝓤) (W : Given
   Post = walkOf 𝓤 H A f.ended stayed (behind 𝓤 H A of) .post (((κ, tt), (q, tt), tt, x, at), tt)
 
   exits : n < 2 ^ 8 → (r : Change) → r ≡ of h n
-      → ent 𝓤 (sep 𝓤 (A .obs γ (T.the-row .coded .code (r .timers))) (sep 𝓤 (A .bor κ (Body (mem T.the-row) b o γ)) (A .lft κ q))) (Post (vbool (r .changed)))
+      → ent 𝓤 (sep 𝓤 (A .obs γ (T.the-row .coded .code (r .timers))) (sep 𝓤 (A .bor κ (Body (mem T.the-row) b o γ)) (A .lft κ q)))
+      (Post (vbool (r .changed)))
   exits fits r e =
       qed W (‵ (fobs γ (T.the-row .coded .code (r .timers))) ∷ ‵ (fbor κ (Body (mem T.the-row) b o γ)) ∷ ‵ (flft κ q) ∷ []) ∵
       suffices ! _ (ends-at 𝓤 H A f.ended stayed (behind 𝓤 H A of) W (((κ, tt), (q, tt), tt, x, at), tt) (vbool (r .changed)) (r .changed)
       (r .timers, (tt, tt)) (tt, (tt, tt))) $
       says ! (ap (λ (y : Change). y .timers) e, ap (λ (y : Change). y .changed) e) $ nothing ! $ move ! (3 ∷ 0 ∷ []) $ join ! $
-      frame ! $ feqI ! (List Val) (vptr b o ∷ []) (vptr b o ∷ []) refl $ fjoin3 ! $ nothing ! $ owned ! u8 (Is u8) (uint-makes 𝓤 H A W w8) n _ (refl, fits) $
+      frame ! $ feqI ! (List Val) (vptr b o ∷ []) (vptr b o ∷ []) refl $ fjoin3 ! $ nothing ! $ owned ! u8 (Is u8) (uint-makes 𝓤 H A W w8) n _
+      (refl, fits) $
       fjoin ! $ move ! (1 ∷ 0 ∷ []) $ fjoin ! $ frame ! $
       owned ! bool (Is bool) (bool-makes 𝓤 H A W) (r .changed) _ refl $ done !
 
@@ -130,7 +135,8 @@ module _ {M : Type 1} (𝓤 : URA M) (H : Heap 𝓤) (A : Atoms 𝓤) (W : Given
   module _ (g : Name) (C : Calls 𝓤 H) (Λ : Loops 𝓤 H) (fm : FmC 𝓤 H (W .laws) C) (known : Triple 𝓤 (C g) (Core 𝓤 H A of)) where
     walk : ent 𝓤 (onEntry 𝓤 H A f.signature (κ, tt) (q, tt) x at) (WpFn 𝓤 H C Λ (inPlace g) (vptr b o ∷ vint w8 n ∷ []) Post)
     walk =
-        qed W ((‵ (flft κ q) ⊛ ‵ ftrue) ∷ ‵ (owns (MutRef (named 0) κ T.the-row ∷ u8 ∷ []) x at) ∷ []) ∵ split ! $ move ! (2 ∷ []) $ fsplit ! $
+        qed W ((‵ (flft κ q) ⊛ ‵ ftrue) ∷ ‵ (owns (MutRef (named 0) κ T.the-row ∷ u8 ∷ []) x at) ∷ []) ∵ split ! $ move !
+        (2 ∷ []) $ fsplit ! $
         move ! (1 ∷ []) $ fsplit ! $
         peeks ! u8 (Is u8) (shows 𝓤 H A u8) n (vint w8 n ∷ []) (λ gn. move ! (2 ∷ []) $ fsplit3 ! $ drop ! $ move ! (0 ∷ 1 ∷ 4 ∷ []) $
         -- Held: what was observed, the borrow, the lifetime's share, the timer.
@@ -148,7 +154,8 @@ module _ {M : Type 1} (𝓤 : URA M) (H : Heap 𝓤) (A : Atoms 𝓤) (W : Given
         nothing ! $ use1 W (raw (Core 𝓤 H A of .pre to-core)) (goes-core (gn .1) was) $
         calls-at ! fm (Core 𝓤 H A of) known to-core
         (and-then ! (load ! (from ! (stop !)) (look ! 5 refl)) (and-then ! (load ! (from ! (stop !)) (look ! 9 refl)) (no-more !))) (λ v.
-        use1 W (later (some (λ (r : Change). (‵ ftrue ⊛ ‵ (TC.the-row .own r (v ∷ []))) ⊛ raw (ensured 𝓤 H A core.ended (byValue 𝓤 H A of) tt (h, (n, tt)) tt
+        use1 W (later (some (λ (r : Change). (‵ ftrue ⊛ ‵ (TC.the-row .own r (v ∷ []))) ⊛ raw
+            (ensured 𝓤 H A core.ended (byValue 𝓤 H A of) tt (h, (n, tt)) tt
         r)))) (id⊢ 𝓤 _) $ await ! tt $ pick ! (λ r.
         split ! $ move ! (1 ∷ []) $ use1 W (raw (fact 𝓤 (r ≡ of h n))) (core-of 𝓤 H A of h n r) $ heard ! (r ≡ of h n) (λ e. split ! $ drop ! $
         peeks ! TC.the-row (Is TC.the-row) (shows 𝓤 H A TC.the-row) r (v ∷ []) (λ is. drop ! $
@@ -159,7 +166,8 @@ module _ {M : Type 1} (𝓤 : URA M) (H : Heap 𝓤) (A : Atoms 𝓤) (W : Given
         (store ! 0 refl (LL.lawful T.the-type T′.the-laws 𝓤 H A W .typed (r .timers) _ (made (r .timers) (small r v is)) .0)) $
         assigns ! (of-opd ! (load ! (from ! (fld ! refl (stop !))) (look-in ! 6 (sub ! 0 refl (whole !))))) (from ! (stop !)) (init ! 12 refl (tt, tt)) $
         use1 W (‵ (cellAt fullShare (T.the-row .mir) (mach (r .timers) ∷ []) b o)) (W .laws .at-raw fullShare T′.mir b o (mach (r .timers))) $
-        owned ! T.the-row (Is T.the-row) ((LL.makes T.the-type T′.the-plain) 𝓤 H A) (r .timers) _ (made (r .timers) (small r v is)) $ move ! (1 ∷ 0 ∷ []) $
+        owned ! T.the-row (Is T.the-row) ((LL.makes T.the-type T′.the-plain) 𝓤 H A) (r .timers) _ (made (r .timers) (small r v is)) $ move !
+        (1 ∷ 0 ∷ []) $
         closes ! tt T.the-row (r .timers) (mach (r .timers) ∷ []) b o $
         returns ! (look ! 11 refl) $ forget ! 3 refl $ forget ! 5 refl $ forget ! 7 refl $ forget ! 9 refl $ forget ! 11 refl $
         move ! (11 ∷ 12 ∷ []) $ free1 ! $ move ! (9 ∷ 10 ∷ []) $ free1 ! $ move ! (7 ∷ 8 ∷ []) $ free1 ! $ move ! (5 ∷ 6 ∷ []) $ free1 ! $
@@ -179,7 +187,9 @@ module _ {M : Type 1} (𝓤 : URA M) (H : Heap 𝓤) (A : Atoms 𝓤) (W : Given
   goes = (goes-ref 𝓤 H A W 1 0 tt (plain (λ _. T.the-row)), (goes-none 𝓤 H A W 1 (λ _. u8) yes (λ κs x f. refl), tt))
 
 pub meets : {M : Type 1} (𝓤 : URA M) (H : Heap 𝓤) (A : Atoms 𝓤) (W : Given 𝓤 H A) (of : Timers → ℕ → Change) (g : Name) (𝓣 : Tables 𝓤 H)
-    → Triple 𝓤 (𝓣 .C g) (Core 𝓤 H A of) → Meets 𝓤 H A f.signature (WpFn 𝓤 H (𝓣 .C) (𝓣 .Λ) (inPlace g)) (closing 𝓤 H A f.ended (behind 𝓤 H A of))
+    → Triple 𝓤 (𝓣 .C g) (Core 𝓤 H A of) → Meets 𝓤 H A f.signature (WpFn 𝓤 H (𝓣 .C) (𝓣 .Λ) (inPlace g))
+    (closing 𝓤 H A f.ended (behind 𝓤 H A of))
 meets 𝓤 H A W of g 𝓣 known =
-    walk-meets 𝓤 H A f.ended stayed W (goes 𝓤 H A W of) (behind 𝓤 H A of) (WpFn 𝓤 H (𝓣 .C) (𝓣 .Λ) (inPlace g)) (WpFn-mono 𝓤 H (W .laws) 𝓣 (inPlace g))
+    walk-meets 𝓤 H A f.ended stayed W (goes 𝓤 H A W of) (behind 𝓤 H A of) (WpFn 𝓤 H (𝓣 .C) (𝓣 .Λ) (inPlace g))
+    (WpFn-mono 𝓤 H (W .laws) 𝓣 (inPlace g))
     (walks 𝓤 H A W of g (𝓣 .C) (𝓣 .Λ) (fmOf 𝓤 H (W .laws) 𝓣) known)

@@ -32,7 +32,7 @@ half-shr x j = shr-shr x 1 j ∙ ap (λ (n : ℕ). x / 2 ^ n) (one-add j)
 pub low-lt : (x : ℕ) → x % 2 < 2
 low-lt x = omega arith
 
--- ── How many are set ───────────────────────────────────────────────────────────────────────────
+-- ---- How many are set
 length-digit : (b k : ℕ) (ts : List ℕ) → b < 2 → length (choose (eqb b 1) (k ∷ []) [] ++ ts) ≡ b + length ts
 unfolding choose
 length-digit zero k ts h = omega arith
@@ -56,7 +56,7 @@ pub count-ones : (x : ℕ) → x < 2 ^ bits → countTimers (listed x) ≡ ones 
 unfolding listed countTimers
 count-ones x h = length-from bits 0 x h
 
--- ── Which are set ──────────────────────────────────────────────────────────────────────────────
+-- ---- Which are set
 skip-digit : (b : Bool) (t k : ℕ) (ts : List ℕ) → (t ≡ k → ⊥) → any (eqb t) (choose b (k ∷ []) [] ++ ts) ≡ any (eqb t) ts
 unfolding choose any
 skip-digit true t k ts h = rw (ne-eqb t k h)
@@ -91,7 +91,7 @@ pub digit-set : (x t : ℕ) → t < bits → isSet t (listed x) ≡ eqb (x / 2 ^
 unfolding listed isSet
 digit-set x t h = set-from bits 0 x t t (omega arith) h
 
--- ── The list ascends ───────────────────────────────────────────────────────────────────────────
+-- ---- The list ascends
 -- From lo on, and below hi.
 abbrev pub Ascends : ℕ → ℕ → List ℕ → Type 0
 Ascends lo hi [] = Unit {0}
@@ -158,7 +158,7 @@ pub count-small : (ts : List ℕ) → TimerSet ts → countTimers ts ≤ bits
 unfolding countTimers
 count-small ts h = omega (arith, length-ascends 0 bits ts (omega arith) (timers-ascend ts h))
 
--- ── The word of the list is the word ───────────────────────────────────────────────────────────
+-- ---- The word of the list is the word
 word-digit : (b k : ℕ) (ts : List ℕ) → b < 2 → wordOf (choose (eqb b 1) (k ∷ []) [] ++ ts) ≡ b * 2 ^ k + wordOf ts
 unfolding choose
 word-digit zero k ts h = omega arith
@@ -185,7 +185,7 @@ word-listed x h = word-from bits 0 x h ∙ mul-one x
 pub timers-listed : (x : Timers) → x .0 < 2 ^ bits → timersOf (listed (x .0)) ≡ x
 timers-listed x h = λ i. record { 0 = word-listed (x .0) h i }
 
--- ── The list of a list's word is the list ──────────────────────────────────────────────────────
+-- ---- The list of a list's word is the list
 -- The word, with the place k as its lowest digit.
 abbrev valueFrom : ℕ → List ℕ → ℕ
 valueFrom k [] = 0
@@ -244,7 +244,7 @@ word-bound lo hi (y ∷ ys) l a =
 pub word-small : (ts : List ℕ) → TimerSet ts → timersOf ts .0 < 2 ^ bits
 word-small ts h = omega (arith, word-bound 0 bits ts (omega arith) (timers-ascend ts h))
 
--- ── What the answers list ──────────────────────────────────────────────────────────────────────
+-- ---- What the answers list
 -- The new set lists nothing.
 pub listed-new : listed (timersOf noTimers .0) ≡ noTimers
 listed-new = listed-timers-of noTimers no-timers

@@ -59,7 +59,8 @@ pub first-small : (x f z : ℕ) → firstFrom f (listed x) ≡ Timer z → z < b
 first-small x f z e = first-within f z 0 bits (listed x) (listed-ascends x) e
 
 -- A timer below what was found is no part of the rest.
-passed : (y : ℕ) (ys : List ℕ) (o : Found) → ((z : ℕ) → o ≡ Timer z → y ≤ z) → andOn o (λ g. restFrom g ys) ≡ andOn o (λ g. restFrom g (y ∷ ys))
+passed : (y : ℕ) (ys : List ℕ) (o : Found) → ((z : ℕ) → o ≡ Timer z → y ≤ z) → andOn o (λ g. restFrom g ys)
+    ≡ andOn o (λ g. restFrom g (y ∷ ys))
 unfolding restFrom choose
 passed y ys Nothing h = refl
 passed y ys (Timer z) h = rw (lt-leb (z + 1) y (omega (arith, h z refl)))
@@ -74,7 +75,7 @@ rest-step f lo hi (y ∷ ys) a = by-test (rest-step f (suc y) hi ys (a .2)) (leb
     by-test rest true e = rw (lt-leb (y + 1) y (omega arith), rest-all (y + 1) (suc y) hi ys (omega arith) (a .2))
     by-test rest false e = rest ∙ passed y ys (firstFrom f ys) (λ z q. omega (arith, leb-false f y e, first-least f z ys q))
 
--- ── For a loop over the timers ─────────────────────────────────────────────────────────────────
+-- ---- For a loop over the timers
 -- At first the whole list is left.
 pub walk-begins : (x : ℕ) → restFrom 0 (listed x) ≡ listed x
 walk-begins x = rest-all 0 0 bits (listed x) (omega arith) (listed-ascends x)
@@ -90,7 +91,7 @@ walk-found x f y e = walk-step x f ∙ ap (λ (o : Found). andOn o (λ g. restFr
 pub walk-ends : (x f : ℕ) → firstFrom f (listed x) ≡ Nothing → restFrom f (listed x) ≡ []
 walk-ends x f e = walk-step x f ∙ ap (λ (o : Found). andOn o (λ g. restFrom g (listed x))) e
 
--- ── The whole walk ─────────────────────────────────────────────────────────────────────────────
+-- ---- The whole walk
 none-left : (ts : List ℕ) → length ts ≤ 0 → [] ≡ ts
 none-left [] h = refl
 none-left (y ∷ ys) h = absurd (omega arith)

@@ -58,7 +58,7 @@ pub next-timer : (x f : ℕ) → x < 2 ^ bits → f < bits → zerosOf x f ≤ n
 unfolding choose
 next-timer x f h l z = sym (first-word x f h l ∙ rw (lt-ltb (zerosOf x f) bits (suc-le-suc z)))
 
--- ── A bit more, a bit less ─────────────────────────────────────────────────────────────────────
+-- ---- A bit more, a bit less
 and-bit : (x t : ℕ) → bitAnd x (2 ^ t) ≡ x / 2 ^ t % 2 * 2 ^ t
 and-bit x t = ap (bitAnd x) one ∙ and-high x 1 t
   where
@@ -96,7 +96,8 @@ unfolding place any choose
 word-place t [] e = refl
 word-place t (y ∷ ys) e = by-test (eqb t y) (ltb t y) e (word-place t ys)
   where
-    by-test : (a b : Bool) → (a || any (eqb t) ys) ≡ false → (any (eqb t) ys ≡ false → wordOf (place (eqb t) (λ u. u) (ltb t) t ys) ≡ 2 ^ t + wordOf ys)
+    by-test : (a b : Bool) → (a || any (eqb t) ys) ≡ false
+        → (any (eqb t) ys ≡ false → wordOf (place (eqb t) (λ u. u) (ltb t) t ys) ≡ 2 ^ t + wordOf ys)
         → wordOf (choose a (y ∷ ys) (choose b (t ∷ y ∷ ys) (y ∷ place (eqb t) (λ u. u) (ltb t) t ys))) ≡ 2 ^ t + (2 ^ y + wordOf ys)
     by-test true b q rest = absurd (true≢false q)
     by-test false true q rest = refl
@@ -107,7 +108,8 @@ unfolding cut any choose
 word-cut t [] e = absurd (false≢true e)
 word-cut t (y ∷ ys) e = by-test (eqb t y) refl e (word-cut t ys)
   where
-    by-test : (b : Bool) → eqb t y ≡ b → (b || any (eqb t) ys) ≡ true → (any (eqb t) ys ≡ true → 2 ^ t + wordOf (cut (eqb t) (λ u. []) ys) ≡ wordOf ys)
+    by-test : (b : Bool) → eqb t y ≡ b → (b || any (eqb t) ys) ≡ true
+        → (any (eqb t) ys ≡ true → 2 ^ t + wordOf (cut (eqb t) (λ u. []) ys) ≡ wordOf ys)
         → 2 ^ t + wordOf (choose b ys (y ∷ cut (eqb t) (λ u. []) ys)) ≡ 2 ^ y + wordOf ys
     by-test true p q rest = ap (λ (n : ℕ). 2 ^ n + wordOf ys) (eqb-true t y p)
     by-test false p q rest = omega (arith, rest q)
@@ -135,7 +137,7 @@ cancel-word x t h l e =
     let whole = word-listed x h in
     rw (le-leb t network (omega arith)) (ap (λ (n : ℕ). bitAnd x (4294967295 - n)) (bit-word t l) ∙ omega arith)
 
--- ── What setting and cancelling answer ─────────────────────────────────────────────────────────
+-- ---- What setting and cancelling answer
 -- Only a timer up to Network is ever set.
 pub set-small : (x t : ℕ) → isSet t (listed x) ≡ true → t < bits
 set-small x t e = small (decLt t bits)

@@ -45,7 +45,8 @@ breaks p [] = []
 breaks p (x ∷ l) = choose (changes (p .envelope) (x .envelope)) (x .envelope ∷ breaks x l) (breaks x l)
 
 -- Each of them is of a later flow than what stands before the list.
-later : (p : Entry) (l : List Entry) → chain (inOrder Ordered) (p ∷ l) ≡ true → (f : Envelope) → f ∈ breaks p l → isLess (cmpFlow (p .envelope) f) ≡ true
+later : (p : Entry) (l : List Entry) → chain (inOrder Ordered) (p ∷ l) ≡ true → (f : Envelope) → f ∈ breaks p l → isLess (cmpFlow (p .envelope) f)
+    ≡ true
 unfolding chain inOrder breaks
 later p [] h f m = absurd (List·Memᴰ·not-nil m)
 later p (x ∷ l) h f m =

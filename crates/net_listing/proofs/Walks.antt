@@ -92,7 +92,8 @@ module _ (n : Network) where
   offered-left zero at h = over {c = at} (rw h)
   offered-left (suc m) at h = go (shows (n .kind) L at) refl (offered-left m (at + 1) (omega arith))
     where
-      next : (b : Bool) → shows (n .kind) L at ≡ b → offeredNext n at ≡ choose b (offer.Next (getD L at zeroEntry .envelope) (at + 1)) (offeredNext n (at + 1))
+      next : (b : Bool) → shows (n .kind) L at ≡ b → offeredNext n at
+          ≡ choose b (offer.Next (getD L at zeroEntry .envelope) (at + 1)) (offeredNext n (at + 1))
       next b e = let k : length L - (at + 1) ≡ m = omega arith in rw (h, k, e)
 
       go : (b : Bool) → shows (n .kind) L at ≡ b → Offered n (at + 1) (shown (n .kind) L m (at + 1))

@@ -53,11 +53,12 @@ pub named-all
 named-all name e = (e, (ap namedNumber e ∙ numbered name .0, ap namedKinds e ∙ numbered name .1))
 
 -- What is written into a buffer that it fits is the name whole, and is read back as the kind.
-pub written-read : (k : Kind) (out : List ℕ) → length (nameOf k) ≤ length out → namedOf (kindNamed (take (length (nameOf k)) (leftOn (nameOf k) out))) ≡ Known k
+pub written-read : (k : Kind) (out : List ℕ) → length (nameOf k) ≤ length out → namedOf (kindNamed (take (length (nameOf k)) (leftOn (nameOf k) out)))
+    ≡ Known k
 unfolding leftOn choose
 written-read k out h = rw (le-leb (length (nameOf k)) (length out) h, take-append-seam (nameOf k) (drop (length (nameOf k)) out)) (own-name k)
 
--- ── The list of names ──────────────────────────────────────────────────────────────────────────
+-- ---- The list of names
 -- The name at a place is that of the kind with this number, and names it.
 pub listed-kind : (i : ℕ) → i < length names → (getD names i [] ≡ nameOf (kindOf i)) × (kindNamed (getD names i []) ≡ done (kindOf i))
 unfolding names kindOf
@@ -98,7 +99,8 @@ listed-once i j h k e =
 -- A walk by `names`: at each place of the list the name is written whole into a buffer that it fits; then comes the end.
 pub listed-written
     : (i : ℕ) (out : List ℕ) → i < length names → length (getD names i []) ≤ length out
-    → (firstListed (drop i names) out ≡ Name (length (getD names i []))) × (take (length (getD names i [])) (firstLeft (drop i names) out) ≡ getD names i [])
+    → (firstListed (drop i names) out ≡ Name (length (getD names i [])))
+    × (take (length (getD names i [])) (firstLeft (drop i names) out) ≡ getD names i [])
 unfolding names leftOn writtenAs choose
 listed-written i out h l =
     let n = getD names i [] in

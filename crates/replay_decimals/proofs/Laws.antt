@@ -129,7 +129,8 @@ fill-more {before} {now} {at} {i} {end} {m} {w} {n} h l f =
     fill-back (omega arith) (omega arith) (subst (λ (k : ℕ). Filled before now at k end m w n) e f)
 
 -- filled whole
-pub filled : {before now : List ℕ} {at end m w n : ℕ} → Filled before now at at end m w n → now ≡ take at before ++ (lastDigits w n ++ drop end before)
+pub filled : {before now : List ℕ} {at end m w n : ℕ} → Filled before now at at end m w n → now ≡ take at before
+    ++ (lastDigits w n ++ drop end before)
 filled {before} {now} {at} {end} {m} {w} {n} f =
     let e : at - at ≡ 0 = omega arith in
     f .is ∙ ap (λ (s : List ℕ). take at before ++ (s ++ drop end before)) (ap (λ (i : ℕ). lastDigits i m ++ f .tail) (sym e) ∙ f .digits)

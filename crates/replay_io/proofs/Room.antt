@@ -135,7 +135,8 @@ place-in s p h = go (readScript versions s) (inside versions s) h
     go (read a ys q) i e = let z : _≡_ {A = ℕ} 0 1 = cc in absurd (omega arith)
     go (badAt q) i e = let z : q ≡ p = cc in omega arith
 
-bad-size : (s : List ℕ) (p : ℕ) → layoutOf (readScript versions s) ≡ layout.Bad p → length (line badWord (p ∷ [])) ≡ length (replay base versions s)
+bad-size : (s : List ℕ) (p : ℕ) → layoutOf (readScript versions s) ≡ layout.Bad p → length (line badWord (p ∷ []))
+    ≡ length (replay base versions s)
 bad-size s p h =
     (told-bad s p {out = []} {left = choose (leb n 0) (line badWord (p ∷ []) ++ drop n []) []} {r = n} h (record { size = refl; bytes = refl })) .size
   where

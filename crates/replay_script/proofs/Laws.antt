@@ -59,7 +59,8 @@ number-back n h =
 pub data Begun : Outcome Next → Answered → Type 0 where
   ran : (x : Next) {r : Answered} → isDone (r .answer) ≡ true → answerNumber (r .answer) ≡ 0 → Ready (r .system) → sysView (r .system) ≡ x .sys
       → Begun (done x) r
-  not-ran : (n : ℕ) {r : Answered} → isDone (r .answer) ≡ false → answerNumber (r .answer) ≡ n → r .system ≡ systemOf blank → Begun (refused n) r
+  not-ran : (n : ℕ) {r : Answered} → isDone (r .answer) ≡ false → answerNumber (r .answer) ≡ n → r .system ≡ systemOf blank
+      → Begun (refused n) r
 
 begun-of : (m : Outcome Next) → Holds (λ (x : Next). wellFormed base (x .sys) ≡ true) m → (answer m ≡ 0 → (x : Next) × (m ≡ done x))
     → (answer m ≡ 0) ⊎ (startNumbers (answer m) ≡ true)
@@ -197,7 +198,8 @@ said-bad s p e = go (readScript versions s) e
     go (badAt q) h = let z : q ≡ p = cc in rw z
 
 -- ---- the buffer
-pub told-bad : (s : List ℕ) (p : ℕ) {out left : List ℕ} {r : ℕ} → layoutOf (readScript versions s) ≡ layout.Bad p → Told (line badWord (p ∷ [])) out r left
+pub told-bad : (s : List ℕ) (p : ℕ) {out left : List ℕ} {r : ℕ} → layoutOf (readScript versions s) ≡ layout.Bad p
+    → Told (line badWord (p ∷ [])) out r left
     → Told (replay base versions s) out r left
 told-bad s p {out} {left} {r} e t = subst (λ (l : List ℕ). Told l out r left) (sym (said-bad s p e)) t
 

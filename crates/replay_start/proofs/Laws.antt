@@ -40,8 +40,10 @@ use Rattle.replay_start.specs.declared.Opened.{Opened}
 use Rattle.replay_start.specs.Views.{openedOf}
 
 -- ---- so many, one after another: how many, and what holds of each
-module _ {A : Type 0} (f : Reader A) (t : A → Bool) (each : (xs : List ℕ) (p : ℕ) (a : A) (ys : List ℕ) (q : ℕ) → f xs p ≡ read a ys q → t a ≡ true) where
-  repeat-all : (n : ℕ) (xs : List ℕ) (p : ℕ) {l : List A} {ys : List ℕ} {q : ℕ} → repeat n f xs p ≡ read l ys q → (length l ≡ n) × (all t l ≡ true)
+module _ {A : Type 0} (f : Reader A) (t : A → Bool) (each : (xs : List ℕ) (p : ℕ) (a : A) (ys : List ℕ) (q : ℕ) → f xs p ≡ read a ys q → t a
+    ≡ true) where
+  repeat-all : (n : ℕ) (xs : List ℕ) (p : ℕ) {l : List A} {ys : List ℕ} {q : ℕ} → repeat n f xs p ≡ read l ys q → (length l ≡ n)
+      × (all t l ≡ true)
   unfolding repeat joining all
   repeat-all zero xs p {l} {ys} {q} e =
       let x : [] ≡ l = cc in rw (← x) (refl, refl)
@@ -64,7 +66,8 @@ module _ (f : Format) where
       table-fits rs (le-leb (length rs) mostRules (omega arith))
 
   -- no more envelopes are read than their array has
-  few-given : Fine f → (xs : List ℕ) (p : ℕ) {es : List Envelope} {ys : List ℕ} {q : ℕ} → envelopesFrom f xs p ≡ read es ys q → length es ≤ mostEntries
+  few-given : Fine f → (xs : List ℕ) (p : ℕ) {es : List Envelope} {ys : List ℕ} {q : ℕ} → envelopesFrom f xs p ≡ read es ys q
+      → length es ≤ mostEntries
   unfolding envelopesFrom
   few-given fine xs p e =
       let r = both (one (envelopeCountForm f) xs p) (λ c. repeat c (one (envelopeForm f))) e in
@@ -131,7 +134,8 @@ opened-is s {o} {r} e g k =
     let given : Given = record { list = o .list; used = o .used } in
     let n = ap (λ (y : OpeningRead). y .count) (w .told) in
     let q = ap (λ (y : OpeningRead). y .kind) (w .told) in
-    let m = started-is (opening-laid s (w .reads)) (ap (λ (y : OpeningRead). y .tables) (w .told)) (x .kind) given (ap (λ (y : OpeningRead). y .list) (w .told))
+    let m = started-is (opening-laid s (w .reads)) (ap (λ (y : OpeningRead). y .tables) (w .told)) (x .kind) given
+    (ap (λ (y : OpeningRead). y .list) (w .told))
     (ap (λ (y : OpeningRead). y .used) (w .told)) in
     let v = k ∙ (λ i. answeredOf (systemOf blank) (started (q i) (n i) (o .tables) given)) ∙ ap (answeredOf (systemOf blank)) m in
     (λ i. record { answered = v i; version = w .told i .version; next = o .next }) ∙ sym (ap openedOf (w .reads))

@@ -38,7 +38,8 @@ module _ {A : Type 0} (f : Form A) (xs : List ℕ) (p : ℕ) {a : A} {zs : List 
 
 module _ (f : Format) where
   -- an action ends after its place and within the script
-  pub span : (s : List ℕ) (at : ℕ) {i : Item} (r : ℕ) → one (actionForm f) (drop at s) at ≡ read i (drop r s) r → (at < r) × (r ≤ length s) × (at < length s)
+  pub span : (s : List ℕ) (at : ℕ) {i : Item} (r : ℕ) → one (actionForm f) (drop at s) at ≡ read i (drop r s) r → (at < r) × (r ≤ length s)
+      × (at < length s)
   span s at r h =
       let w = past (actionForm f) (drop at s) at (action-sized f (drop at s)) h in
       let n = length-drop at s in
@@ -169,7 +170,8 @@ module _ (f : Format) where
 pub data Coming (f : Format) (s : List ℕ) (at : ℕ) (ys : List ℕ) (q : ℕ) : List Action → Type 0 where
   last : (r : ℕ) → one (actionForm f) (drop at s) at ≡ read end (drop r s) r → Coming f s at ys q []
   next
-      : {a : Action} (r : ℕ) {l : List Action} → one (actionForm f) (drop at s) at ≡ read (item a) (drop r s) r → actionsFrom f (drop r s) r ≡ read l ys q
+      : {a : Action} (r : ℕ) {l : List Action} → one (actionForm f) (drop at s) at ≡ read (item a) (drop r s) r → actionsFrom f (drop r s) r
+          ≡ read l ys q
       → Coming f s at ys q (a ∷ l)
 
 closed-all : (zs : List ℕ) (r : ℕ) {l : List Action} {ys : List ℕ} {q : ℕ} → closed zs r ≡ read l ys q → [] ≡ l

@@ -40,7 +40,8 @@ module _ (known : List Format) (s : List ℕ) where
 
   -- ---- the layout, by the opening
   pub opening-good
-      : {o : Opening} {q : ℕ} → openingFrom known s 0 ≡ read o (drop q s) q → layoutOf (scriptFrom known s 0) ≡ layoutOf (actionsFrom (formatIn o) (drop q s) q)
+      : {o : Opening} {q : ℕ} → openingFrom known s 0 ≡ read o (drop q s) q → layoutOf (scriptFrom known s 0)
+          ≡ layoutOf (actionsFrom (formatIn o) (drop q s) q)
   unfolding scriptFrom onward
   opening-good {o} {q} e = ap (λ (m : Reading Opening). layoutOf (onward m after)) e ∙ layout-behind o (actionsFrom (formatIn o) (drop q s) q)
 
@@ -78,7 +79,8 @@ module _ (known : List Format) (s : List ℕ) where
     pub readsOpening : openingFrom known s 0 ≡ read opening (drop next s) next
     pub readsActions : actionsFrom (formatIn opening) (drop next s) next ≡ read actions left place
 
-  apart : {x : Script} {ys : List ℕ} {q : ℕ} → length s ≤ mostBytes → readScript known s ≡ scriptFrom known s 0 → scriptFrom known s 0 ≡ read x ys q → Parts
+  apart : {x : Script} {ys : List ℕ} {q : ℕ} → length s ≤ mostBytes → readScript known s ≡ scriptFrom known s 0 → scriptFrom known s 0
+      ≡ read x ys q → Parts
   unfolding scriptFrom
   apart {x} {ys} {q} h c e =
       let a = both (openingFrom known s 0) after e in

@@ -55,7 +55,8 @@ kept-repeat (suc n) f kf =
 pub kept-table : (f : Format) → Kept (tableFrom f)
 unfolding tableFrom
 kept-table f =
-    kept-onward (one ruleCountForm) (λ c. repeat c (one (ruleForm f))) (kept-one ruleCountForm) (λ c. kept-repeat c (one (ruleForm f)) (kept-one (ruleForm f)))
+    kept-onward (one ruleCountForm) (λ c. repeat c (one (ruleForm f))) (kept-one ruleCountForm)
+    (λ c. kept-repeat c (one (ruleForm f)) (kept-one (ruleForm f)))
 
 pub kept-envelopes : (f : Format) → Kept (envelopesFrom f)
 unfolding envelopesFrom

@@ -79,7 +79,8 @@ pub record Told {A T : Type 0} (out : Reading A → T) (place : T → ℕ) (f : 
   pub told : t ≡ out (read value (drop (place t) s) (place t))
 
 module _
-    {A T : Type 0} {out : Reading A → T} {good : T → Bool} {place : T → ℕ} (k : Telling out good place) (f : Reader A) (s : List ℕ) (at : ℕ) {t : T} where
+    {A T : Type 0} {out : Reading A → T} {good : T → Bool} {place : T → ℕ} (k : Telling out good place) (f : Reader A) (s : List ℕ)
+        (at : ℕ) {t : T} where
   told-by : (m : Reading A) → f (drop at s) at ≡ m → t ≡ out m → Kept f → good t ≡ true → Told out place f s at t
   told-by (read a ys p) h e kept g =
       let q : p ≡ place t = sym (ap place e ∙ k .yes a ys p .1) in
@@ -165,7 +166,8 @@ module _ (s : List ℕ) (at : ℕ) where
   count-bad f e = told-bad count-tells (one f) s at e refl
 
   pub envelope-found
-      : (f : Form Envelope) {x : Envelope} {q : ℕ} → envelope.Found x q ≡ envelopeRead (one f (drop at s) at) → one f (drop at s) at ≡ read x (drop q s) q
+      : (f : Form Envelope) {x : Envelope} {q : ℕ} → envelope.Found x q ≡ envelopeRead (one f (drop at s) at) → one f (drop at s) at
+          ≡ read x (drop q s) q
   envelope-found f {x} {q} e =
       let r = told-found envelope-tells (one f) s at e (kept-one f) refl in
       let w : envelope.Found x q ≡ envelope.Found (r .value) q = r .told in
@@ -237,7 +239,8 @@ module _ {A : Type 0} (P : A → Type 0) where
       let z : _≡_ {A = ℕ} 0 1 = cc in absurd (omega arith)
   follow-gives xs (field w k) at g e = follow-gives xs (k (fieldAt xs at w)) (at + w) (g (fieldAt xs at w)) e
 
-  placed-gives : (f : Form A) (xs : List ℕ) (p : ℕ) (r : Got A) {a : A} {ys : List ℕ} {q : ℕ} → Gives f → recordOf f xs ≡ r → placed r xs p ≡ read a ys q → P a
+  placed-gives : (f : Form A) (xs : List ℕ) (p : ℕ) (r : Got A) {a : A} {ys : List ℕ} {q : ℕ} → Gives f → recordOf f xs ≡ r → placed r xs p
+      ≡ read a ys q → P a
   unfolding placed
   placed-gives f xs p (got b n) {a} {ys} {q} g h e =
       let x : b ≡ a = cc in subst P x (follow-gives xs f 0 g (found f xs h .follows))
@@ -254,7 +257,8 @@ unfolding ruleCountForm
 few-rules xs p e = one-gives (λ n. n ≤ mostRules) ruleCountForm xs p
     (λ n. only-gives (λ m. m ≤ mostRules) (leb n mostRules) (filled n) (leb-true n mostRules)) e
 
-pub few-envelopes : (f : Format) (xs : List ℕ) (p : ℕ) {c : ℕ} {ys : List ℕ} {q : ℕ} → one (envelopeCountForm f) xs p ≡ read c ys q → c ≤ f .most
+pub few-envelopes : (f : Format) (xs : List ℕ) (p : ℕ) {c : ℕ} {ys : List ℕ} {q : ℕ} → one (envelopeCountForm f) xs p ≡ read c ys q
+    → c ≤ f .most
 unfolding envelopeCountForm
 few-envelopes f xs p e =
     one-gives (λ n. n ≤ f .most) (envelopeCountForm f) xs p (λ n. only-gives (λ m. m ≤ f .most) (leb n (f .most)) (filled n) (leb-true n (f .most))) e

@@ -181,7 +181,8 @@ module _ (xs : List ℕ) where
   fed-on (field w k) at (v ∷ vs) h = rw (← h .0) (fed-on (k v) (at + w) vs (h .1))
 
   -- ---- the header
-  module _ (known : List Format) {n k a z : ℕ} (p : n ≡ fieldAt xs 0 4) (q : k ≡ fieldAt xs 4 2) (r : a ≡ fieldAt xs 6 4) (s : z ≡ fieldAt xs 10 6) where
+  module _ (known : List Format) {n k a z : ℕ} (p : n ≡ fieldAt xs 0 4) (q : k ≡ fieldAt xs 4 2) (r : a ≡ fieldAt xs 6 4)
+      (s : z ≡ fieldAt xs 10 6) where
     header-rest : follow xs (headerForm known) 0 ≡ follow xs (only (headerOk known n k a z) (filled (record { version = n; kind = k; actors = a }))) 16
     unfolding headerForm
     header-rest = fed-on (headerForm known) 0 (n ∷ k ∷ a ∷ z ∷ []) (p, (q, (r, (s, tt))))
@@ -207,7 +208,8 @@ module _ (xs : List ℕ) where
   module _ (f : Format) (at : ℕ) where
     -- ---- a command, whose fields begin at b
     module _ {b : ℕ} (z : b ≡ at + f .command) where
-      pub set-at : {t e : ℕ} → 0 ≡ fieldAt xs at (f .command) → t ≡ fieldAt xs b 5 → e ≡ b + 5 → follow xs (commandForm f) at ≡ reached (rule.SetTimer t) e
+      pub set-at : {t e : ℕ} → 0 ≡ fieldAt xs at (f .command) → t ≡ fieldAt xs b 5 → e ≡ b + 5 → follow xs (commandForm f) at
+          ≡ reached (rule.SetTimer t) e
       unfolding commandForm commandKinds
       set-at {t} p q r = rw (r, z) (fed xs (commandForm f) at (0 ∷ t ∷ []) (p, (moved 5 q z, tt)))
 
@@ -255,7 +257,8 @@ module _ (xs : List ℕ) where
           ∙ ap (reached (message.Deliver (record { 0 = n }) (record { 0 = p }))) k
 
       pub ack-at
-          : {n : ℕ} → 1 ≡ fieldAt xs at (f .tag) → n ≡ fieldAt xs b (f .number) → follow xs (messageForm f) at ≡ reached (message.Ack (record { 0 = n })) c
+          : {n : ℕ} → 1 ≡ fieldAt xs at (f .tag) → n ≡ fieldAt xs b (f .number) → follow xs (messageForm f) at
+              ≡ reached (message.Ack (record { 0 = n })) c
       unfolding messageForm messageKinds
       ack-at {n} t q =
           let g : at + f .tag + f .number ≡ c = omega (arith, z, y) in
@@ -281,7 +284,8 @@ module _ (xs : List ℕ) where
       pub no-envelope : follow xs (messageForm f) c ≡ stuck → follow xs (envelopeForm f) at ≡ stuck
       unfolding envelopeForm
       no-envelope h =
-          then-stuck xs (at + 8 + 8) (messageForm f) (λ m. record { src = record { 0 = fieldAt xs at 8 }; dst = record { 0 = fieldAt xs (at + 8) 8 }; msg = m })
+          then-stuck xs (at + 8 + 8) (messageForm f) (λ m. record { src = record { 0 = fieldAt xs at 8 }; dst = record { 0 = fieldAt xs (at + 8) 8 };
+              msg = m })
           (ap (follow xs (messageForm f)) behind ∙ h)
 
   -- ---- a rule
@@ -303,7 +307,8 @@ module _ (xs : List ℕ) where
           let e6 : w + 73 ≡ 0 + w + 4 + 32 + 32 + 1 + 4 = omega arith in
           let e7 : 0 + w + 4 + 32 + 32 + 1 + 4 + 3 ≡ b = omega (arith, z) in
           fed-on (ruleForm f) 0
-          (fieldAt xs 0 w ∷ fieldAt xs w 4 ∷ fieldAt xs (w + 4) 32 ∷ fieldAt xs (w + 36) 32 ∷ fieldAt xs (w + 68) 1 ∷ fieldAt xs (w + 69) 4 ∷ c ∷ [])
+          (fieldAt xs 0 w ∷ fieldAt xs w 4 ∷ fieldAt xs (w + 4) 32 ∷ fieldAt xs (w + 36) 32 ∷ fieldAt xs (w + 68) 1 ∷ fieldAt xs (w + 69) 4 ∷ c
+          ∷ [])
           (refl, (moved 4 refl e1, (moved 32 refl e2, (moved 32 refl e3, (moved 1 refl e4, (moved 4 refl e5, (moved 3 p e6, tt)))))))
           ∙ ap
           (follow xs (only (leb c mostCommands) (then (times c (commandForm f)) (λ cs. filled (ruleWith xs w (slotsOf cs) c)))))
@@ -313,7 +318,8 @@ module _ (xs : List ℕ) where
         rule-commands : follow xs (ruleForm f) 0 ≡ follow xs (then (times c (commandForm f)) (λ cs. filled (ruleWith xs (f .event) (slotsOf cs) c))) b
         rule-commands = rule-rest ∙ follow-only xs (then (times c (commandForm f)) (λ cs. filled (ruleWith xs (f .event) (slotsOf cs) c))) b (le-leb _ _ fit)
 
-        pub rule-at : {l : List Slot} {e : ℕ} → follow xs (commandsForm c) b ≡ reached l e → follow xs (ruleForm f) 0 ≡ reached (ruleWith xs (f .event) l c) e
+        pub rule-at : {l : List Slot} {e : ℕ} → follow xs (commandsForm c) b ≡ reached l e → follow xs (ruleForm f) 0
+            ≡ reached (ruleWith xs (f .event) l c) e
         rule-at {l} {e} h =
             let r = then-found xs (times c (commandForm f)) (λ cs. filled (slotsOf cs)) b h in
             let s : reached (slotsOf (r .value)) (r .middle) ≡ reached l e = r .second in
@@ -394,7 +400,8 @@ module _ (xs : List ℕ) where
           → follow xs (actionForm f) 0 ≡ reached (item (action.Timeout (record { 0 = i }) t)) 16
       unfolding actionKinds
       timeout-kind {i} {t} e g h =
-          kind-at p within ∙ ap (λ (j : ℕ). follow xs (getD (actionKinds f) j refuse) 3) e ∙ fed xs (getD (actionKinds f) 3 refuse) 3 (i ∷ t ∷ []) (g, (h, tt))
+          kind-at p within ∙ ap (λ (j : ℕ). follow xs (getD (actionKinds f) j refuse) 3) e
+              ∙ fed xs (getD (actionKinds f) 3 refuse) 3 (i ∷ t ∷ []) (g, (h, tt))
 
       pub crash-kind : {i : ℕ} → k ≡ 4 → i ≡ fieldAt xs 3 8 → follow xs (actionForm f) 0 ≡ reached (item (action.Crash (record { 0 = i }))) 11
       unfolding actionKinds

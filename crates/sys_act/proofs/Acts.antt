@@ -63,7 +63,8 @@ module _ (count : ℕ) (rs : List Rule) (kind : Kind) (used n : ℕ) (x : Rows) 
       (subst (λ (i : Id). Stepped count b i rs kind used n x r x') (sym (seat-is count b q)) s)
 
   -- What is answered is this.
-  pub as-told : (a : Action) (i : Id) (r r' : Sent) (x' : Rows) → r ≡ r' → Stepped count a i rs kind used n x r' x' → Stepped count a i rs kind used n x r x'
+  pub as-told : (a : Action) (i : Id) (r r' : Sent) (x' : Rows) → r ≡ r' → Stepped count a i rs kind used n x r' x'
+      → Stepped count a i rs kind used n x r x'
   as-told a i r r' x' e s = subst (λ (z : Sent). Stepped count a i rs kind used n x z x') (sym e) s
 
   -- ---- nobody there
@@ -128,7 +129,8 @@ module _ (count : ℕ) (rs : List Rule) (kind : Kind) (used n : ℕ) (x : Rows) 
       fine = record { net = fine .net; room = fine .room; live = crashed-laid (x .live) (x .pend) (fine .live); kept = fine .kept };
       runs = λ t hall size last.
           seat-crash (capsOf (x .cells)) i hall (netOf kind last (x .cells) used) (actorAt rs x)
-          ∙ ap (λ (b : Actor). done (holding i hall (netOf kind last (x .cells) used) b)) (sym (crashed-actor (x .live) (x .pend) (fine .live) rs (x .kept) (x .stored)));
+          ∙ ap (λ (b : Actor). done (holding i hall (netOf kind last (x .cells) used) b))
+          (sym (crashed-actor (x .live) (x .pend) (fine .live) rs (x .kept) (x .stored)));
       stops = λ f. absurd (not-both true refl f);
       same = λ f. absurd (not-both true refl f);
     })
@@ -147,7 +149,8 @@ module _ (count : ℕ) (rs : List Rule) (kind : Kind) (used n : ℕ) (x : Rows) 
       unfolding onDrop present
       at-seat hall size last =
           seat-drop (capsOf (x .cells)) i hall (netOf kind last (x .cells) used) (actorAt rs x) e
-          ∙ ap (λ (k : ℕ). guard (ltb (e .src .0) k) 2 (bind (onDrop e (netOf kind last (x .cells) used)) (λ m. done (holding i hall m (actorAt rs x))))) size
+          ∙ ap (λ (k : ℕ). guard (ltb (e .src .0) k) 2 (bind (onDrop e (netOf kind last (x .cells) used))
+          (λ m. done (holding i hall m (actorAt rs x))))) size
 
       drop-unknown : count ≤ e .src .0 → (r ≡ record { answer = OutOfRange; used = used; len = n }) × (cs' ≡ x .cells)
           → Ended i count rs (o (Drop e) i) (lastThen kind (Drop e)) kind used n x r x'
@@ -157,7 +160,8 @@ module _ (count : ℕ) (rs : List Rule) (kind : Kind) (used n : ℕ) (x : Rows) 
           (λ hall size last. at-seat hall size last ∙ rw (le-ltb (e .src .0) count h)))
 
       module _ (h : e .src .0 < count) (ch : (last : LastMessage) → Changed (x .cells) used n (onDrop e (netOf kind last (x .cells) used)) r cs') where
-        left : (b : Bool) → there ≡ b → (last : LastMessage) → Changed (x .cells) used n (guard b 3 (done (dropping e (netOf kind last (x .cells) used)))) r cs'
+        left : (b : Bool) → there ≡ b → (last : LastMessage)
+            → Changed (x .cells) used n (guard b 3 (done (dropping e (netOf kind last (x .cells) used)))) r cs'
         unfolding onDrop present
         left b q last = subst (λ (t : Bool). Changed (x .cells) used n (guard t 3 (done (dropping e (netOf kind last (x .cells) used)))) r cs') q (ch last)
 

@@ -120,7 +120,8 @@ pub fn act(
     count: usize,
     a: Action,
 ) -> Sent
-    requires { ⌜ Fine kind used len (rowsOf (now c) (now live) (now pend) (now kept) (now stored)) × TableLaid (now table) rules × (count ≤ mostActors) ⌝ }
+    requires { ⌜ Fine kind used len (rowsOf (now c) (now live) (now pend) (now kept) (now stored)) × TableLaid (now table) rules
+            × (count ≤ mostActors) ⌝ }
     ensures { λ r. ⌜ Stepped count a (seatOf count a) (rulesIn (now (table .entry)) rules) kind used len
         (rowsOf (now (c .entry)) (now (live .entry)) (now (pend .entry)) (now (kept .entry)) (now (stored .entry)))
         r (rowsOf (now (c .exit)) (now (live .exit)) (now (pend .exit)) (now (kept .exit)) (now (stored .exit))) ⌝ }

@@ -64,7 +64,8 @@ module _ (number last : ℕ) (t : List (List ℕ)) (rules state : ℕ) (source :
     chosen-ignored h e = ignores (ap ignored (row-replies 2 state source payload t rules at laid first h) ∙ e)
 
     -- A rule takes it.
-    pub chosen-takes : last < number → at < rules → ignored (replied (getD t at []) source payload) ≡ false → Chosen number last t rules state source payload at
+    pub chosen-takes : last < number → at < rules → ignored (replied (getD t at []) source payload) ≡ false
+        → Chosen number last t rules state source payload at
     chosen-takes n h e = record {
       found = λ g. first;
       takes = λ g.
@@ -121,12 +122,15 @@ module _ (kind : Kind) (e : Envelope) (used n : ℕ) (x : Rows) (fine : Fine kin
       (λ hall size last. at-seat hall size last ∙ rw (lt-ltb (e .src .0) count h, c))
 
   module _ (h : e .src .0 < count) (c : mark (getD (x .live) 5 0) ≡ false) (m : Message) (q : e .msg ≡ m) (r : Sent) (x' : Rows) where
-    reaches : (hall : Around (e .dst)) → length (hall .sys .actors) ≡ count → (last : LastMessage) → o hall last ≡ handedTo kind e m used x rs hall last
+    reaches : (hall : Around (e .dst)) → length (hall .sys .actors) ≡ count → (last : LastMessage) → o hall last
+        ≡ handedTo kind e m used x rs hall last
     unfolding guard
     reaches hall size last =
         at-seat hall size last
-        ∙ ap (λ (b : Bool). guard b 2 (guard (not (mark (getD (x .live) 5 0))) 1 (handedTo kind e (e .msg) used x rs hall last))) (lt-ltb (e .src .0) count h)
-        ∙ ap (λ (b : Bool). guard (not b) 1 (handedTo kind e (e .msg) used x rs hall last)) c ∙ ap (λ (k : Message). handedTo kind e k used x rs hall last) q
+        ∙ ap (λ (b : Bool). guard b 2 (guard (not (mark (getD (x .live) 5 0))) 1 (handedTo kind e (e .msg) used x rs hall last)))
+        (lt-ltb (e .src .0) count h)
+        ∙ ap (λ (b : Bool). guard (not b) 1 (handedTo kind e (e .msg) used x rs hall last)) c
+        ∙ ap (λ (k : Message). handedTo kind e k used x rs hall last) q
 
     pub delivered : Ended (e .dst) count rs (handedTo kind e m used x rs) (lastAfter kind e) kind used n x r x'
         → Stepped count (action.Deliver e) (e .dst) rs kind used n x r x'
@@ -141,4 +145,5 @@ module _ (kind : Kind) (e : Envelope) (used n : ℕ) (x : Rows) (fine : Fine kin
   pub acks : (h : e .src .0 < count) (c : mark (getD (x .live) 5 0) ≡ false) (v : Number) (q : e .msg ≡ Ack v) (r : Sent) (x' : Rows)
       → Acted (e .dst) (ackedIn kind e v used x) (lastAfter kind e) kind used n x r x' → Stepped count (action.Deliver e) (e .dst) rs kind used n x r x'
   acks h c v q r x' a = delivered h c (Ack v) q r x'
-      (ended-by (e .dst) count rs (handedTo kind e (Ack v) used x rs) (lastAfter kind e) kind used n x _ r x' a (λ hall size last. ack-is kind e used x rs hall last v))
+      (ended-by (e .dst) count rs (handedTo kind e (Ack v) used x rs) (lastAfter kind e) kind used n x _ r x' a
+      (λ hall size last. ack-is kind e used x rs hall last v))

@@ -25,7 +25,8 @@ use Rattle.types.specs.declared.LastMessage.{LastMessage}
 use Rattle.rules.specs.Outcome.{Outcome, done, refused, bind}
 use Rattle.rules.specs.Inner.{Reply, reply, ignored}
 use Rattle.rules.specs.Network.{Net, onDeliver}
-use Rattle.rules.specs.Link.{Durable, Did, Output, Link, Send, Save, untaken, lastOf, lastTaken, acked, withTaken, acking, ackedBy, takenBy, handing, output, onMsg}
+use Rattle.rules.specs.Link.{Durable, Did, Output, Link, Send, Save, untaken, lastOf, lastTaken, acked, withTaken, acking, ackedBy, takenBy, handing, output}
+use Rattle.rules.specs.Link.{onMsg}
 use Rattle.rules.specs.System.{Actor, Sys, withLink, runCommands}
 use Rattle.net_rows.specs.Views.{netOf, roomOf}
 use Rattle.link_rows.specs.Rows.{numberIn, durableIn}
@@ -44,7 +45,8 @@ taken-at [] (suc n) s rest = refl
 taken-at (x ∷ l) (suc n) zero rest = refl
 taken-at (x ∷ l) (suc n) (suc s) rest = taken-at l n s (λ h. rest (omega arith))
 
-pub last-is : (w : List ℕ) (p : List (List ℕ)) → RowsLaid w p → (s : Id) → s .0 < mostActors → lastTaken s (durableIn w p) .0 ≡ getD w (8 + s .0) 0
+pub last-is : (w : List ℕ) (p : List (List ℕ)) → RowsLaid w p → (s : Id) → s .0 < mostActors → lastTaken s (durableIn w p) .0
+    ≡ getD w (8 + s .0) 0
 unfolding lastTaken lastOf durableIn
 last-is w p laid s few =
     let c = tail-at w 0 in
@@ -82,7 +84,8 @@ module _ (kind : Kind) (e : Envelope) (used : ℕ) (x : Rows) (rs : List Rule) (
 
   module _ (v : Number) (y : Payload) where
     -- ---- acked, and nothing more
-    old-or-ignored : (a b : Bool) → (a || b) ≡ true → leb (v .0) (lastTaken (e .src) d .0) ≡ a → ignored (reply rs 2 (getD w 7 0) (e .src) (y .0)) ≡ b
+    old-or-ignored : (a b : Bool) → (a || b) ≡ true → leb (v .0) (lastTaken (e .src) d .0) ≡ a → ignored (reply rs 2 (getD w 7 0) (e .src) (y .0))
+        ≡ b
         → handedTo kind e (Deliver v y) used x rs hall last ≡ passedBy kind e v used x hall last rs
     unfolding onMsg choose handing acking bind withLink actorOf
     old-or-ignored true b t p q = by-handler (Deliver v y) _ (λ n. rw p)
@@ -101,7 +104,8 @@ module _ (kind : Kind) (e : Envelope) (used : ℕ) (x : Rows) (rs : List Rule) (
       put-taken n (done a) = rw st
       put-taken n (refused k) = refl
 
-      newer-and-not : (a b : Bool) → (a || b) ≡ false → leb (v .0) (lastTaken (e .src) d .0) ≡ a → ignored r ≡ b → reply rs 2 (getD w 7 0) (e .src) (y .0) ≡ r
+      newer-and-not : (a b : Bool) → (a || b) ≡ false → leb (v .0) (lastTaken (e .src) d .0) ≡ a → ignored r ≡ b
+          → reply rs 2 (getD w 7 0) (e .src) (y .0) ≡ r
           → onMsg (limitsOf mostPending) (e .dst) rs l (e .src) (Deliver v y)
           ≡ bind (output (limitsOf mostPending) (e .dst) (withTaken (e .src) v d) (r .out)) (takenBy (e .dst) l (e .src) v y r)
       unfolding onMsg handing choose

@@ -54,7 +54,8 @@ module _ (kind : Kind) (e : Envelope) (v : Number) (used n : ℕ) (x : Rows) (fi
 
   -- The outcome with the actor of the rows.
   as-taking : (hall : Around (e .dst)) (last : LastMessage) (rs : List Rule) (a : Actor) → a ≡ actorAt rs x
-      → bind (onDeliver e (netOf kind last (x .cells) used)) (λ m. runCommands (roomOf (x .cells)) (e .dst) (Send (e .src) (Ack v) ∷ []) (holding (e .dst) hall m a))
+      → bind (onDeliver e (netOf kind last (x .cells) used))
+      (λ m. runCommands (roomOf (x .cells)) (e .dst) (Send (e .src) (Ack v) ∷ []) (holding (e .dst) hall m a))
       ≡ passedBy kind e v used x hall last rs
   as-taking hall last rs a q =
       ap (λ (b : Actor). bind (onDeliver e (netOf kind last (x .cells) used))

@@ -101,7 +101,8 @@ fn hear(
     number: Number,
     payload: Payload,
 ) -> Sent
-    requires { ⌜ Fine kind used len (rowsOf (now c) (now live) (now pend) (now kept) (now stored)) × TableLaid (now table) rules × (e .src .0 < mostActors) ⌝ }
+    requires { ⌜ Fine kind used len (rowsOf (now c) (now live) (now pend) (now kept) (now stored)) × TableLaid (now table) rules
+            × (e .src .0 < mostActors) ⌝ }
     ensures { λ r. ⌜ ((count : ℕ) → Ended (e .dst) count (rulesIn (now (table .entry)) rules) (handedTo kind e (message.Deliver number payload) used
         (rowsOf (now (c .entry)) (now (live .entry)) (now (pend .entry)) (now (kept .entry)) (now (stored .entry))) (rulesIn (now (table .entry)) rules))
         (lastAfter kind e) kind used len
@@ -136,7 +137,8 @@ pub fn deliver(
     count: usize,
     e: Envelope,
 ) -> Sent
-    requires { ⌜ Fine kind used len (rowsOf (now c) (now live) (now pend) (now kept) (now stored)) × TableLaid (now table) rules × (count ≤ mostActors) ⌝ }
+    requires { ⌜ Fine kind used len (rowsOf (now c) (now live) (now pend) (now kept) (now stored)) × TableLaid (now table) rules
+            × (count ≤ mostActors) ⌝ }
     ensures { λ r. ⌜ Stepped count (action.Deliver e) (e .dst) (rulesIn (now (table .entry)) rules) kind used len
         (rowsOf (now (c .entry)) (now (live .entry)) (now (pend .entry)) (now (kept .entry)) (now (stored .entry)))
         r (rowsOf (now (c .exit)) (now (live .exit)) (now (pend .exit)) (now (kept .exit)) (now (stored .exit))) ⌝ }

@@ -39,10 +39,12 @@ module _ (kind : Kind) (me : Id) (cmds : List Command) (cs₀ : List (List ℕ))
     pub room : length cs ≡ length cs₀
     pub ready : NetReady kind cs u l
     pub number : m + sends rest ≤ 18446744073709551615
-    pub goal : (hall : Around me) (last : LastMessage) (a : Actor) → runCommands (roomOf cs₀) me cmds (sysIn me hall kind last cs₀ used w₀ a) ≡ runCommands (roomOf cs₀) me (take k (asked m rest)) (sysIn me hall kind last cs u w a)
+    pub goal : (hall : Around me) (last : LastMessage) (a : Actor) → runCommands (roomOf cs₀) me cmds (sysIn me hall kind last cs₀ used w₀ a)
+        ≡ runCommands (roomOf cs₀) me (take k (asked m rest)) (sysIn me hall kind last cs u w a)
 
   module _ (cs : List (List ℕ)) (u l w m k : ℕ) (rest : List InnerCommand) (on : Along cs u l w m k rest) where
-    pub along-end : take k (asked m rest) ≡ [] → Ran kind me cmds cs₀ used w₀ (record { answer = Done; used = u; len = l; timers = w; next = m; left = k }) cs
+    pub along-end : take k (asked m rest) ≡ [] → Ran kind me cmds cs₀ used w₀
+        (record { answer = Done; used = u; len = l; timers = w; next = m; left = k }) cs
     unfolding runCommands
     along-end e = record {
       room = on .room;
@@ -55,7 +57,8 @@ module _ (kind : Kind) (me : Id) (cmds : List Command) (cs₀ : List (List ℕ))
     pub along-room : (x : InnerCommand) (os : List InnerCommand) → rest ≡ x ∷ os → m + sends (x ∷ []) ≤ 18446744073709551615
     along-room x os split = let z = on .number in let s = ap sends split in let t = sends-cons x os in omega arith
 
-    module _ (x : InnerCommand) (os : List InnerCommand) (split : rest ≡ x ∷ os) (r : Emitted) (cs' : List (List ℕ)) (went : Went kind me x cs u w m k r cs') where
+    module _ (x : InnerCommand) (os : List InnerCommand) (split : rest ≡ x ∷ os) (r : Emitted) (cs' : List (List ℕ))
+        (went : Went kind me x cs u w m k r cs') where
       rooms : roomOf cs ≡ roomOf cs₀
       rooms = room-same cs₀ cs (on .room)
 
@@ -65,7 +68,10 @@ module _ (kind : Kind) (me : Id) (cmds : List Command) (cs₀ : List (List ℕ))
         full = went .full;
         ready = λ h. absurd (not-both (isDone (r .answer)) h f);
         runs = λ h. absurd (not-both (isDone (r .answer)) h f);
-        stops = λ h hall last a. on .goal hall last a ∙ ap (λ (o : List InnerCommand). runCommands (roomOf cs₀) me (take k (asked m o)) (sysIn me hall kind last cs u w a)) split ∙ ap (λ (c : Room). runCommands c me (take k (asked m (x ∷ os))) (sysIn me hall kind last cs u w a)) (sym rooms) ∙ went .stops h hall last a os;
+        stops =
+            λ h hall last a. on .goal hall last a ∙ ap (λ (o : List InnerCommand). runCommands (roomOf cs₀) me (take k (asked m o))
+                (sysIn me hall kind last cs u w a)) split ∙ ap
+                (λ (c : Room). runCommands c me (take k (asked m (x ∷ os))) (sysIn me hall kind last cs u w a)) (sym rooms) ∙ went .stops h hall last a os;
       }
 
       pub along-step : isDone (r .answer) ≡ true → Along cs' (r .used) (r .len) (r .timers) (r .next) (r .left) os
@@ -74,9 +80,11 @@ module _ (kind : Kind) (me : Id) (cmds : List Command) (cs₀ : List (List ℕ))
         ready = went .ready t;
         number = let z = on .number in let s = ap sends split in let y = sends-cons x os in let v = went .number t in omega arith;
         goal = λ hall last a.
-            on .goal hall last a ∙ ap (λ (o : List InnerCommand). runCommands (roomOf cs₀) me (take k (asked m o)) (sysIn me hall kind last cs u w a)) split
+            on .goal hall last a ∙ ap (λ (o : List InnerCommand). runCommands (roomOf cs₀) me (take k (asked m o))
+                (sysIn me hall kind last cs u w a)) split
             ∙ ap (λ (c : Room). runCommands c me (take k (asked m (x ∷ os))) (sysIn me hall kind last cs u w a)) (sym rooms)
-            ∙ went .onward t hall last a os ∙ ap (λ (c : Room). runCommands c me (take (r .left) (asked (r .next) os)) (sysIn me hall kind last cs' (r .used) (r .timers) a)) rooms;
+            ∙ went .onward t hall last a os ∙ ap (λ (c : Room). runCommands c me (take (r .left) (asked (r .next) os))
+            (sysIn me hall kind last cs' (r .used) (r .timers) a)) rooms;
       }
 
 pub nothing-more : (k m : ℕ) (rest : List InnerCommand) → rest ≡ [] → take k (asked m rest) ≡ []

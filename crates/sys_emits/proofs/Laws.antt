@@ -60,7 +60,8 @@ module _ (kind : Kind) (last : LastMessage) (cs : List (List ℕ)) (used n : ℕ
   unfolding send guard bind answerOf sending
   sent-on k h = go (fits (roomOf cs) (sending e m)) ch
     where
-      go : (b : Bool) → Changed cs used n (guard b 8 (done (sending e m))) s cs' → bind (guard b 8 (done (sending e m))) k ≡ k (netOf kind last cs' (s .used))
+      go : (b : Bool) → Changed cs used n (guard b 8 (done (sending e m))) s cs' → bind (guard b 8 (done (sending e m))) k
+          ≡ k (netOf kind last cs' (s .used))
       go true c = let z = sym (c .left .1 .entries) in ap k (λ j. record { kind = kind; entries = z j; last = last })
       go false c = absurd (not-both (isDone (s .answer)) h (ap isDone (c .left .0)))
 
@@ -75,30 +76,37 @@ module _ (kind : Kind) (last : LastMessage) (cs : List (List ℕ)) (used n : ℕ
 -- ---- inner commands
 module _ (kind : Kind) (me : Id) (cs : List (List ℕ)) (used w next left : ℕ) (some : 0 < left) where
   pub set-on : (t w' : ℕ) → listed w' ≡ setTimer t (listed w) → (hall : Around me) (last : LastMessage) (a : Actor) (os : List InnerCommand)
-      → runCommands (roomOf cs) me (take left (asked next (inner.SetTimer t ∷ os))) (sysIn me hall kind last cs used w a) ≡ runCommands (roomOf cs) me (take (left - 1) (asked next os)) (sysIn me hall kind last cs used w' a)
+      → runCommands (roomOf cs) me (take left (asked next (inner.SetTimer t ∷ os))) (sysIn me hall kind last cs used w a)
+      ≡ runCommands (roomOf cs) me (take (left - 1) (asked next os)) (sysIn me hall kind last cs used w' a)
   unfolding asked withTimers
   set-on t w' e hall last a os =
       ap (λ (l : List Command). runCommands (roomOf cs) me l (sysIn me hall kind last cs used w a)) (take-first left (Set t) (asked next os) some)
       ∙ run-set me hall (netOf kind last cs used) (withTimers (listed w) a) (roomOf cs) (take (left - 1) (asked next os)) t
-      ∙ ap (λ (ts : List ℕ). runCommands (roomOf cs) me (take (left - 1) (asked next os)) (holding me hall (netOf kind last cs used) (withTimers ts a))) (sym e)
+      ∙ ap (λ (ts : List ℕ). runCommands (roomOf cs) me (take (left - 1) (asked next os)) (holding me hall (netOf kind last cs used) (withTimers ts a)))
+      (sym e)
 
   pub cancel-on : (t w' : ℕ) → listed w' ≡ cancelTimer t (listed w) → (hall : Around me) (last : LastMessage) (a : Actor) (os : List InnerCommand)
-      → runCommands (roomOf cs) me (take left (asked next (inner.CancelTimer t ∷ os))) (sysIn me hall kind last cs used w a) ≡ runCommands (roomOf cs) me (take (left - 1) (asked next os)) (sysIn me hall kind last cs used w' a)
+      → runCommands (roomOf cs) me (take left (asked next (inner.CancelTimer t ∷ os))) (sysIn me hall kind last cs used w a)
+      ≡ runCommands (roomOf cs) me (take (left - 1) (asked next os)) (sysIn me hall kind last cs used w' a)
   unfolding asked withTimers
   cancel-on t w' e hall last a os =
       ap (λ (l : List Command). runCommands (roomOf cs) me l (sysIn me hall kind last cs used w a)) (take-first left (Cancel t) (asked next os) some)
       ∙ run-cancel me hall (netOf kind last cs used) (withTimers (listed w) a) (roomOf cs) (take (left - 1) (asked next os)) t
-      ∙ ap (λ (ts : List ℕ). runCommands (roomOf cs) me (take (left - 1) (asked next os)) (holding me hall (netOf kind last cs used) (withTimers ts a))) (sym e)
+      ∙ ap (λ (ts : List ℕ). runCommands (roomOf cs) me (take (left - 1) (asked next os)) (holding me hall (netOf kind last cs used) (withTimers ts a)))
+      (sym e)
 
   pub save-on : (v : ℕ) (hall : Around me) (last : LastMessage) (a : Actor) (os : List InnerCommand)
-      → runCommands (roomOf cs) me (take left (asked next (inner.Save v ∷ os))) (sysIn me hall kind last cs used w a) ≡ runCommands (roomOf cs) me (take left (asked next os)) (sysIn me hall kind last cs used w a)
+      → runCommands (roomOf cs) me (take left (asked next (inner.Save v ∷ os))) (sysIn me hall kind last cs used w a)
+      ≡ runCommands (roomOf cs) me (take left (asked next os)) (sysIn me hall kind last cs used w a)
   unfolding asked
   save-on v hall last a os = refl
 
   module _ (d : Id) (p : Payload) (n : ℕ) (s : Sent) (cs' : List (List ℕ))
-      (ch : (last : LastMessage) → Changed cs used n (send (roomOf cs) (record { src = me; dst = d; msg = Deliver (record { 0 = next }) p }) (netOf kind last cs used)) s cs') where
+      (ch : (last : LastMessage) → Changed cs used n (send (roomOf cs) (record { src = me; dst = d; msg = Deliver (record { 0 = next }) p })
+      (netOf kind last cs used)) s cs') where
     pub send-on : isDone (s .answer) ≡ true → (hall : Around me) (last : LastMessage) (a : Actor) (os : List InnerCommand)
-        → runCommands (roomOf cs) me (take left (asked next (inner.Send d p ∷ os))) (sysIn me hall kind last cs used w a) ≡ runCommands (roomOf cs) me (take (left - 1) (asked (next + 1) os)) (sysIn me hall kind last cs' (s .used) w a)
+        → runCommands (roomOf cs) me (take left (asked next (inner.Send d p ∷ os))) (sysIn me hall kind last cs used w a)
+        ≡ runCommands (roomOf cs) me (take (left - 1) (asked (next + 1) os)) (sysIn me hall kind last cs' (s .used) w a)
     unfolding runCommands asked withNet
     send-on h hall last a os = rw (take-first left _ (asked (suc next) os) some, add-one next) (sent-on kind last cs used n _ s cs' (ch last) _ h)
 
@@ -133,7 +141,8 @@ module _ (kind : Kind) (me : Id) (x : InnerCommand) (cs : List (List ℕ)) (used
     stops = λ h. absurd (not-both (isDone Done) refl h);
   })
 
-  pub went-save : (v : ℕ) → x ≡ inner.Save v → Went kind me x cs used w next left (record { answer = Done; used = used; len = n; timers = w; next = next; left = left }) cs
+  pub went-save : (v : ℕ) → x ≡ inner.Save v → Went kind me x cs used w next left
+      (record { answer = Done; used = used; len = n; timers = w; next = next; left = left }) cs
   unfolding sends
   went-save v p = rw p (record {
     room = refl;
@@ -145,7 +154,8 @@ module _ (kind : Kind) (me : Id) (x : InnerCommand) (cs : List (List ℕ)) (used
   })
 
   pub went-send : (d : Id) (p : Payload) → x ≡ inner.Send d p → (s : Sent) (cs' : List (List ℕ))
-      → ((last : LastMessage) → Changed cs used n (send (roomOf cs) (record { src = me; dst = d; msg = Deliver (record { 0 = next }) p }) (netOf kind last cs used)) s cs')
+      → ((last : LastMessage) → Changed cs used n (send (roomOf cs) (record { src = me; dst = d; msg = Deliver (record { 0 = next }) p })
+      (netOf kind last cs used)) s cs')
       → Went kind me x cs used w next left (record { answer = s .answer; used = s .used; len = s .len; timers = w; next = next + 1; left = left - 1 }) cs'
   unfolding sends
   went-send d p q s cs' ch = rw q (record {

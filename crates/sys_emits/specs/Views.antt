@@ -30,8 +30,10 @@ pub record Ran (kind : Kind) (me : Id) (cmds : List Command) (cs : List (List �
   pub room : length cs' ≡ length cs
   pub full : isDone (r .answer) ≡ false → r .answer ≡ NetworkFull
   pub ready : isDone (r .answer) ≡ true → NetReady kind cs' (r .used) (r .len)
-  pub runs : isDone (r .answer) ≡ true → (hall : Around me) (last : LastMessage) (a : Actor) → runCommands (roomOf cs) me cmds (sysIn me hall kind last cs used w a) ≡ done (sysIn me hall kind last cs' (r .used) (r .timers) a)
-  pub stops : isDone (r .answer) ≡ false → (hall : Around me) (last : LastMessage) (a : Actor) → runCommands (roomOf cs) me cmds (sysIn me hall kind last cs used w a) ≡ refused 8
+  pub runs : isDone (r .answer) ≡ true → (hall : Around me) (last : LastMessage) (a : Actor)
+      → runCommands (roomOf cs) me cmds (sysIn me hall kind last cs used w a) ≡ done (sysIn me hall kind last cs' (r .used) (r .timers) a)
+  pub stops : isDone (r .answer) ≡ false → (hall : Around me) (last : LastMessage) (a : Actor)
+      → runCommands (roomOf cs) me cmds (sysIn me hall kind last cs used w a) ≡ refused 8
 
 -- One inner command, of which at most `left` commands may run: what is to be run of it and the next ones is what is to be run of
 -- the next ones afterwards.
@@ -41,6 +43,7 @@ pub record Went (kind : Kind) (me : Id) (x : InnerCommand) (cs : List (List ℕ)
   pub ready : isDone (r .answer) ≡ true → NetReady kind cs' (r .used) (r .len)
   pub number : isDone (r .answer) ≡ true → r .next ≡ next + sends (x ∷ [])
   pub onward : isDone (r .answer) ≡ true → (hall : Around me) (last : LastMessage) (a : Actor) (os : List InnerCommand)
-      → runCommands (roomOf cs) me (take left (asked next (x ∷ os))) (sysIn me hall kind last cs used w a) ≡ runCommands (roomOf cs) me (take (r .left) (asked (r .next) os)) (sysIn me hall kind last cs' (r .used) (r .timers) a)
+      → runCommands (roomOf cs) me (take left (asked next (x ∷ os))) (sysIn me hall kind last cs used w a)
+      ≡ runCommands (roomOf cs) me (take (r .left) (asked (r .next) os)) (sysIn me hall kind last cs' (r .used) (r .timers) a)
   pub stops : isDone (r .answer) ≡ false → (hall : Around me) (last : LastMessage) (a : Actor) (os : List InnerCommand)
       → runCommands (roomOf cs) me (take left (asked next (x ∷ os))) (sysIn me hall kind last cs used w a) ≡ refused 8

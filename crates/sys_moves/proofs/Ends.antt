@@ -18,7 +18,8 @@ use Rattle.sys_seat.specs.Seat.{Around}
 use Rattle.sys_emits.proofs.Laws.{not-both}
 use Rattle.sys_moves.specs.Views.{Rows, sysAt, Fine, Acted, Ended}
 
-module _ (me : Id) (count : ℕ) (rs : List Rule) (o : Around me → LastMessage → Outcome Sys) (after : LastMessage → LastMessage) (kind : Kind) (used n : ℕ)
+module _ (me : Id) (count : ℕ) (rs : List Rule) (o : Around me → LastMessage → Outcome Sys) (after : LastMessage → LastMessage) (kind : Kind)
+    (used n : ℕ)
     (x : Rows) where
   -- By a step whose outcome is the same.
   pub ended-by : (o′ : Around me → LastMessage → List Rule → Outcome Sys) (r : Sent) (x' : Rows) → Acted me o′ after kind used n x r x'

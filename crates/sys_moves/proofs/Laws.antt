@@ -56,8 +56,10 @@ places-are w p h = length-map (take (getD w 1 0) p) pendingIn ∙ length-take-le
 behind : Bool → Durable → List Command
 behind b d = choose b (Save d ∷ []) []
 
-module _ (me : Id) (d : Durable) (os : List InnerCommand) (room : ℕ) (h : d .next .0 + sends os ≤ 18446744073709551615) (k : length (d .pending) + sends os ≤ room) where
-  pub outputs : {B : Type 0} (f : Output → Outcome B) (g : Durable → List Command → Outcome B) → ((o : Output) → f o ≡ g (o .durable) (o .commands)) → bind (output (limitsOf room) me d os) f ≡ g (noted os d) (asked (d .next .0) os ++ choose (any durably os) (Save (noted os d) ∷ []) [])
+module _ (me : Id) (d : Durable) (os : List InnerCommand) (room : ℕ) (h : d .next .0 + sends os ≤ 18446744073709551615)
+    (k : length (d .pending) + sends os ≤ room) where
+  pub outputs : {B : Type 0} (f : Output → Outcome B) (g : Durable → List Command → Outcome B) → ((o : Output) → f o ≡ g (o .durable) (o .commands))
+      → bind (output (limitsOf room) me d os) f ≡ g (noted os d) (asked (d .next .0) os ++ choose (any durably os) (Save (noted os d) ∷ []) [])
   unfolding output thenSave bind
   outputs f g same =
       let z = goes (limitsOf room) me os d h k in
@@ -65,7 +67,8 @@ module _ (me : Id) (d : Durable) (os : List InnerCommand) (room : ℕ) (h : d .n
       let b = any durably os in
       rw (z .told) (same _ ∙ λ j. g (y .1 j) (y .0 j ++ choose b (Save (y .1 j) ∷ []) []))
 
-pub refused-output : (me : Id) (d : Durable) (os : List InnerCommand) (room k : ℕ) {B : Type 0} (f : Output → Outcome B) → process (limitsOf room) me d os ≡ refused k → bind (output (limitsOf room) me d os) f ≡ refused k
+pub refused-output : (me : Id) (d : Durable) (os : List InnerCommand) (room k : ℕ) {B : Type 0} (f : Output → Outcome B) → process (limitsOf room) me d os
+    ≡ refused k → bind (output (limitsOf room) me d os) f ≡ refused k
 unfolding output bind
 refused-output me d os room k f e = rw e
 
@@ -117,7 +120,8 @@ module _ (me : Id) (kind : Kind) (os : List InnerCommand) (t s used n : ℕ) (x 
     few-places : length (d .pending) ≤ mostPending
     few-places = let a = fine .live .pending in let c = places in omega arith
 
-    pub enough : getD w 0 0 ≤ 18446744073709551615 → isDone why ≡ true → (getD w 0 0 + sends os ≤ 18446744073709551615) × (getD w 1 0 + sends os ≤ mostPending)
+    pub enough : getD w 0 0 ≤ 18446744073709551615 → isDone why ≡ true → (getD w 0 0 + sends os ≤ 18446744073709551615)
+        × (getD w 1 0 + sends os ≤ mostPending)
     unfolding durableIn
     enough h g = let z = goes-on me d mostPending os why as-view (few-numbers h) few-places g in (z .0, let a = z .1 in let c = places in omega arith)
 
@@ -162,7 +166,8 @@ module _ (me : Id) (kind : Kind) (os : List InnerCommand) (t s used n : ℕ) (x 
         record {
           fine = record { net = safe .ready; room = safe .room ∙ fine .room; live = fine .live; kept = fine .kept };
           runs = λ a. absurd (not-both (isDone (r .answer)) a g);
-          stops = λ a hall last rs. split hall last rs _ (safe .stops g hall last (b rs)) ∙ ap (λ (y : Answer). refused (answerNumber y)) (sym (safe .full g));
+          stops =
+              λ a hall last rs. split hall last rs _ (safe .stops g hall last (b rs)) ∙ ap (λ (y : Answer). refused (answerNumber y)) (sym (safe .full g));
           same = λ a. (λ j. record { cells = z .0 j; live = w; pend = x .pend; kept = x .kept; stored = x .stored }, z .1, z .2);
         }
 
@@ -180,8 +185,10 @@ module _ (me : Id) (kind : Kind) (os : List InnerCommand) (t s used n : ℕ) (x 
         fine = record { net = safe .ready; room = safe .room ∙ fine .room; live = put .laid; kept = fine .kept };
         runs = λ a hall last rs.
             ran hall last rs
-            ∙ ap (λ (b′ : Bool). runCommands (roomOf (x .cells)) me (choose b′ (Save (noted os d) ∷ []) []) (sysIn me hall kind last cs' (r .used) (r .timers) (b rs))) f
-            ∙ ap (λ (a : Actor). done (holding me hall (netOf kind last cs' (r .used)) a)) (sym (as-settled rs (noted os d) (r .timers) s w w' p' put (x .kept) (x .stored)));
+            ∙ ap (λ (b′ : Bool). runCommands (roomOf (x .cells)) me (choose b′ (Save (noted os d) ∷ []) [])
+            (sysIn me hall kind last cs' (r .used) (r .timers) (b rs))) f
+            ∙ ap (λ (a : Actor). done (holding me hall (netOf kind last cs' (r .used)) a))
+            (sym (as-settled rs (noted os d) (r .timers) s w w' p' put (x .kept) (x .stored)));
         stops = λ a. absurd (not-both (isDone (r .answer)) t1 a);
         same = λ a. absurd (not-both (isDone (r .answer)) t1 a);
       }
@@ -194,9 +201,11 @@ module _ (me : Id) (kind : Kind) (os : List InnerCommand) (t s used n : ℕ) (x 
         fine = record { net = safe .ready; room = safe .room ∙ fine .room; live = put .laid; kept = stored-laid w' p' k' q' e (put .laid) };
         runs = λ a hall last rs.
             ran hall last rs
-            ∙ ap (λ (b′ : Bool). runCommands (roomOf (x .cells)) me (choose b′ (Save (noted os d) ∷ []) []) (sysIn me hall kind last cs' (r .used) (r .timers) (b rs))) f
+            ∙ ap (λ (b′ : Bool). runCommands (roomOf (x .cells)) me (choose b′ (Save (noted os d) ∷ []) [])
+            (sysIn me hall kind last cs' (r .used) (r .timers) (b rs))) f
             ∙ run-save me hall (netOf kind last cs' (r .used)) (withTimers (listed (r .timers)) (b rs)) (roomOf (x .cells)) [] (noted os d)
-            ∙ ap (λ (a : Actor). done (holding me hall (netOf kind last cs' (r .used)) a)) (sym (as-stored rs (noted os d) (r .timers) s w w' p' put k' q' e));
+            ∙ ap (λ (a : Actor). done (holding me hall (netOf kind last cs' (r .used)) a))
+            (sym (as-stored rs (noted os d) (r .timers) s w w' p' put k' q' e));
         stops = λ a. absurd (not-both (isDone (r .answer)) t1 a);
         same = λ a. absurd (not-both (isDone (r .answer)) t1 a);
       }

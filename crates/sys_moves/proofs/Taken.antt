@@ -47,7 +47,8 @@ use Rattle.sys_rows.proofs.Laws.{tail-at, as-stored, stored-laid}
 use Rattle.sys_moves.specs.Views.{Rows, actorWith, running, takenIn, Fine, Acted}
 use Rattle.sys_moves.proofs.Laws.{places-are, outputs, refused-output, asked-few, take-all}
 
-module _ (source : Id) (number : Number) (os : List InnerCommand) (w : List ℕ) (p : List (List ℕ)) (laid : RowsLaid w p) (w1 : List ℕ) (note : Noticed (source .0) (number .0) w w1) where
+module _ (source : Id) (number : Number) (os : List InnerCommand) (w : List ℕ) (p : List (List ℕ)) (laid : RowsLaid w p) (w1 : List ℕ)
+    (note : Noticed (source .0) (number .0) w w1) where
   pub noticed-laid : RowsLaid w1 p
   noticed-laid = note .laid p laid
 
@@ -57,7 +58,8 @@ module _ (source : Id) (number : Number) (os : List InnerCommand) (w : List ℕ)
   pub noticed-numbers : getD w 0 0 + sends os ≤ 18446744073709551615 → getD w1 0 0 + sends os ≤ 18446744073709551615
   noticed-numbers h = let z = note .numbers in omega arith
 
-  pub noticed-settled : (t s : ℕ) (w' : List ℕ) (p' : List (List ℕ)) → Settled (noted os (durableIn w1 p)) t s w1 w' p' → Settled (noted os (withTaken source number (durableIn w p))) t s w w' p'
+  pub noticed-settled : (t s : ℕ) (w' : List ℕ) (p' : List (List ℕ)) → Settled (noted os (durableIn w1 p)) t s w1 w' p'
+      → Settled (noted os (withTaken source number (durableIn w p))) t s w w' p'
   noticed-settled t s w' p' put = record {
     durable = put .durable ∙ ap (noted os) (note .durable p);
     crashed = put .crashed ∙ note .crashed;
@@ -67,7 +69,8 @@ module _ (source : Id) (number : Number) (os : List InnerCommand) (w : List ℕ)
   }
 
 -- ---- 3 before 6 and 7
-module _ (kind : Kind) (e : Envelope) (cs : List (List ℕ)) (used n : ℕ) (ready : NetReady kind cs used n) (why : Answer) (at : ℕ) (first : at ≡ lead (λ x. not (same e (x .envelope))) (entryList cs used)) where
+module _ (kind : Kind) (e : Envelope) (cs : List (List ℕ)) (used n : ℕ) (ready : NetReady kind cs used n) (why : Answer) (at : ℕ)
+    (first : at ≡ lead (λ x. not (same e (x .envelope))) (entryList cs used)) where
   or-true : (b : Bool) → (b || true) ≡ true
   or-true true = refl
   or-true false = refl
@@ -120,7 +123,8 @@ module _ (kind : Kind) (e : Envelope) (v : Number) (os : List InnerCommand) (s u
   unfolding withTaken durableIn
   next-is = refl
 
-  module _ (why : Answer) (told : why ≡ answerOf (refusalOf (getD w 0 0) (getD w 1 0) mostPending (sends os))) (most : getD w 0 0 ≤ 18446744073709551615) where
+  module _ (why : Answer) (told : why ≡ answerOf (refusalOf (getD w 0 0) (getD w 1 0) mostPending (sends os)))
+      (most : getD w 0 0 ≤ 18446744073709551615) where
     as-view : why ≡ answerOf (refusalOf (d .next .0) (length (d .pending)) mostPending (sends os))
     as-view =
         told ∙ ap (λ (k : ℕ). answerOf (refusalOf k (getD w 1 0) mostPending (sends os))) (sym next-is)
@@ -137,13 +141,15 @@ module _ (kind : Kind) (e : Envelope) (v : Number) (os : List InnerCommand) (s u
         let z = goes-on (e .dst) d mostPending os why as-view few least g in
         (let a = z .0 in let b = next-is in omega arith, let a = z .1 in let b = places in omega arith)
 
-    pub taken-refused : isDone why ≡ false → (b : Answer) → b ≡ choose (there kind e (x .cells) used) why Absent → (cs' : List (List ℕ)) → cs' ≡ x .cells
+    pub taken-refused : isDone why ≡ false → (b : Answer) → b ≡ choose (there kind e (x .cells) used) why Absent → (cs' : List (List ℕ)) → cs'
+        ≡ x .cells
         → Acted (e .dst) o (lastAfter kind e) kind used n x (record { answer = b; used = used; len = n })
         (record { cells = cs'; live = w; pend = x .pend; kept = x .kept; stored = x .stored })
     unfolding choose guard bind answerOf
     taken-refused g b p cs' q = rw q (go (there kind e (x .cells) used) refl)
       where
-        go : (t : Bool) → there kind e (x .cells) used ≡ t → Acted (e .dst) o (lastAfter kind e) kind used n x (record { answer = b; used = used; len = n }) x
+        go : (t : Bool) → there kind e (x .cells) used ≡ t
+            → Acted (e .dst) o (lastAfter kind e) kind used n x (record { answer = b; used = used; len = n }) x
         go true h =
             let bw : b ≡ why = p ∙ ap (λ (t : Bool). choose t why Absent) h in
             let f : isDone b ≡ false = ap isDone bw ∙ g in
@@ -219,7 +225,8 @@ module _ (kind : Kind) (e : Envelope) (v : Number) (os : List InnerCommand) (s u
     c = λ rs. record { rules = rs; crashed = mark (getD w 5 0); timers = listed (r .timers); link = record { durable = d'; state = s }; storage = some d' }
 
     saves : (t : Bool) (hall : Around (e .dst)) (last : LastMessage) (rs : List Rule)
-        → runCommands (roomOf (x .cells)) (e .dst) (choose t (Save d' ∷ []) [] ++ Save d' ∷ []) (sysIn (e .dst) hall kind last cs' (r .used) (r .timers) (b rs))
+        → runCommands (roomOf (x .cells)) (e .dst) (choose t (Save d' ∷ []) [] ++ Save d' ∷ [])
+        (sysIn (e .dst) hall kind last cs' (r .used) (r .timers) (b rs))
         ≡ done (holding (e .dst) hall (netOf kind last cs' (r .used)) (c rs))
     unfolding choose runCommands withStorage withTimers
     saves true hall last rs =

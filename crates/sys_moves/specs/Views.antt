@@ -84,7 +84,8 @@ passedBy kind e v used x hall last rs = bind (onDeliver e (netOf kind last (x .c
     runCommands (roomOf (x .cells)) (e .dst) (Send (e .src) (Ack v) ∷ []) (holding (e .dst) hall n (actorAt rs x)))
 
 -- A message that is taken: out of the network, its Ack, the inner actor's commands, and all of it saved.
-abbrev pub takenIn : Kind → (e : Envelope) → Number → List InnerCommand → ℕ → ℕ → Rows → Around (e .dst) → LastMessage → List Rule → Outcome Sys
+abbrev pub takenIn : Kind → (e : Envelope) → Number → List InnerCommand → ℕ → ℕ → Rows → Around (e .dst) → LastMessage → List Rule
+    → Outcome Sys
 takenIn kind e v os s used x hall last rs =
     bind (onDeliver e (netOf kind last (x .cells) used)) (λ n.
     bind (output (limitsOf mostPending) (e .dst) (withTaken (e .src) v (durableIn (x .live) (x .pend))) os) (λ o.
@@ -98,12 +99,14 @@ pub record Fine (kind : Kind) (used n : ℕ) (x : Rows) : Type 0 where
   pub kept : RowsLaid (x .kept) (x .stored)
 
 -- Done: every system that held the rows holds them as the outcome says; else the answer is the outcome's, and everything is as it was.
-pub record Acted (me : Id) (o : Around me → LastMessage → List Rule → Outcome Sys) (after : LastMessage → LastMessage) (kind : Kind) (used n : ℕ) (x : Rows)
+pub record Acted (me : Id) (o : Around me → LastMessage → List Rule → Outcome Sys) (after : LastMessage → LastMessage) (kind : Kind) (used n : ℕ)
+    (x : Rows)
     (r : Sent) (x' : Rows) : Type 0 where
   pub fine : Fine kind (r .used) (r .len) x'
   pub runs : isDone (r .answer) ≡ true → (hall : Around me) (last : LastMessage) (rs : List Rule)
       → o hall last rs ≡ done (sysAt me hall kind (after last) (r .used) rs x')
-  pub stops : isDone (r .answer) ≡ false → (hall : Around me) (last : LastMessage) (rs : List Rule) → o hall last rs ≡ refused (answerNumber (r .answer))
+  pub stops : isDone (r .answer) ≡ false → (hall : Around me) (last : LastMessage) (rs : List Rule) → o hall last rs
+      ≡ refused (answerNumber (r .answer))
   pub same : isDone (r .answer) ≡ false → (x' ≡ x) × (r .used ≡ used) × (r .len ≡ n)
 
 -- ---- a whole action, or a start: the same among so many actors, with these rules

@@ -52,7 +52,8 @@ unfolding cut choose len fewer
 cut-len p [] = omega arith
 cut-len p (x ∷ l) = go (p x) (cut-len p l)
   where
-    go : (b : Bool) → len (cut p fewer l) ≤ len l → len (choose b (choose (leb (x .count) 1) [] (lowered x ∷ []) ++ l) (x ∷ cut p fewer l)) ≤ x .count + len l
+    go : (b : Bool) → len (cut p fewer l) ≤ len l → len
+        (choose b (choose (leb (x .count) 1) [] (lowered x ∷ []) ++ l) (x ∷ cut p fewer l)) ≤ x .count + len l
     go true h = less-left x l (leb (x .count) 1)
     go false h = omega arith
 
@@ -91,13 +92,17 @@ module _ (e : Envelope) (m : Net) where
 
 -- ---- the delivery, by whether the message is there
 module _ (kind : Kind) (e : Envelope) (cs : List (List ℕ)) (used n : ℕ) where
-  pub deliver-is : (last : LastMessage) → onDeliver e (netOf kind last cs used) ≡ guard (there kind e cs used) 3 (done (delivering e (netOf kind last cs used)))
+  pub deliver-is : (last : LastMessage) → onDeliver e (netOf kind last cs used)
+      ≡ guard (there kind e cs used) 3 (done (delivering e (netOf kind last cs used)))
   unfolding onDeliver there present
   deliver-is last = refl
 
   module _ (s : Sent) (cs' : List (List ℕ)) (ch : (last : LastMessage) → Changed cs used n (onDeliver e (netOf kind last cs used)) s cs') where
-    by-there : (b : Bool) → there kind e cs used ≡ b → (last : LastMessage) → Changed cs used n (guard b 3 (done (delivering e (netOf kind last cs used)))) s cs'
-    by-there b q last = subst (λ (t : Bool). Changed cs used n (guard t 3 (done (delivering e (netOf kind last cs used)))) s cs') q (subst (λ (o : Outcome Net). Changed cs used n o s cs') (deliver-is last) (ch last))
+    by-there : (b : Bool) → there kind e cs used ≡ b → (last : LastMessage)
+        → Changed cs used n (guard b 3 (done (delivering e (netOf kind last cs used)))) s cs'
+    by-there b q last =
+        subst (λ (t : Bool). Changed cs used n (guard t 3 (done (delivering e (netOf kind last cs used)))) s cs') q
+            (subst (λ (o : Outcome Net). Changed cs used n o s cs') (deliver-is last) (ch last))
 
     pub there-true : isDone (s .answer) ≡ true → there kind e cs used ≡ true
     unfolding guard answerOf
@@ -115,7 +120,8 @@ module _ (kind : Kind) (e : Envelope) (cs : List (List ℕ)) (used n : ℕ) wher
         go true q = absurd (not-both (isDone (s .answer)) (ap isDone (by-there true q Nothing .left .0)) h)
         go false q = q
 
-    pub delivered-net : there kind e cs used ≡ true → (last : LastMessage) → onDeliver e (netOf kind last cs used) ≡ done (netOf kind (lastAfter kind e last) cs' (s .used))
+    pub delivered-net : there kind e cs used ≡ true → (last : LastMessage) → onDeliver e (netOf kind last cs used)
+        ≡ done (netOf kind (lastAfter kind e last) cs' (s .used))
     unfolding guard
     delivered-net q last =
         let m = netOf kind last cs used in
@@ -127,7 +133,8 @@ module _ (kind : Kind) (e : Envelope) (cs : List (List ℕ)) (used n : ℕ) wher
       pub arrived-ready : NetReady kind cs' (s .used) (s .len)
       arrived-ready = deliver-ready kind Nothing cs used n ready s cs' e (ch Nothing)
 
-      pub taken-absent : isDone (s .answer) ≡ false → Taken kind e cmds cs used n w (record { answer = s .answer; used = used; len = n; timers = w; next = next; left = left }) cs'
+      pub taken-absent : isDone (s .answer) ≡ false → Taken kind e cmds cs used n w
+          (record { answer = s .answer; used = used; len = n; timers = w; next = next; left = left }) cs'
       unfolding guard answerOf bind
       taken-absent f =
           let q = there-false f in
@@ -136,28 +143,38 @@ module _ (kind : Kind) (e : Envelope) (cs : List (List ℕ)) (used n : ℕ) wher
             room = ch Nothing .room;
             ready = λ h. absurd (not-both (isDone (s .answer)) h f);
             runs = λ h. absurd (not-both (isDone (s .answer)) h f);
-            stops = λ h hall last a. ap (λ (o : Outcome Net). bind o (λ m. runCommands (roomOf cs) (e .dst) cmds (holding (e .dst) hall m (withTimers (listed w) a)))) (deliver-is last ∙ ap (λ (b : Bool). guard b 3 (done (delivering e (netOf kind last cs used)))) q) ∙ ap (λ (x : Answer). refused (answerNumber x)) (sym (z .0));
+            stops =
+                λ h hall last a. ap (λ (o : Outcome Net). bind o
+                    (λ m. runCommands (roomOf cs) (e .dst) cmds (holding (e .dst) hall m (withTimers (listed w) a))))
+                    (deliver-is last ∙ ap (λ (b : Bool). guard b 3 (done (delivering e (netOf kind last cs used)))) q)
+                    ∙ ap (λ (x : Answer). refused (answerNumber x)) (sym (z .0));
             same = λ h. (z .3, refl, refl, refl);
           }
 
-      pub taken-run : isDone (s .answer) ≡ true → (r : Emitted) (cs'' : List (List ℕ)) → Ran kind (e .dst) cmds cs' (s .used) w r cs'' → Taken kind e cmds cs used n w r cs''
+      pub taken-run : isDone (s .answer) ≡ true → (r : Emitted) (cs'' : List (List ℕ)) → Ran kind (e .dst) cmds cs' (s .used) w r cs''
+          → Taken kind e cmds cs used n w r cs''
       unfolding bind
       taken-run t r cs'' ran =
           let q = there-true t in
           let rooms : roomOf cs ≡ roomOf cs' = λ j. record { entries = sym (ch Nothing .room) j; copies = mostCopies } in
-          let on : (hall : Around (e .dst)) (last : LastMessage) (a : Actor) → taking kind e cmds cs used w hall last a ≡ runCommands (roomOf cs') (e .dst) cmds (sysIn (e .dst) hall kind (lastAfter kind e last) cs' (s .used) w a) =
-          λ hall last a. ap (λ (o : Outcome Net). bind o (λ m. runCommands (roomOf cs) (e .dst) cmds (holding (e .dst) hall m (withTimers (listed w) a)))) (delivered-net q last)
+          let on : (hall : Around (e .dst)) (last : LastMessage) (a : Actor) → taking kind e cmds cs used w hall last a
+          ≡ runCommands (roomOf cs') (e .dst) cmds (sysIn (e .dst) hall kind (lastAfter kind e last) cs' (s .used) w a) =
+          λ hall last a. ap (λ (o : Outcome Net). bind o (λ m. runCommands (roomOf cs) (e .dst) cmds (holding (e .dst) hall m (withTimers (listed w) a))))
+              (delivered-net q last)
           ∙ ap (λ (c : Room). runCommands c (e .dst) cmds (sysIn (e .dst) hall kind (lastAfter kind e last) cs' (s .used) w a)) rooms in
           record {
             room = ran .room ∙ ch Nothing .room;
             ready = ran .ready;
             runs = λ h hall last a. on hall last a ∙ ran .runs h hall (lastAfter kind e last) a;
-            stops = λ h hall last a. on hall last a ∙ ran .stops h hall (lastAfter kind e last) a ∙ ap (λ (x : Answer). refused (answerNumber x)) (sym (ran .full h));
+            stops =
+                λ h hall last a. on hall last a ∙ ran .stops h hall (lastAfter kind e last) a
+                    ∙ ap (λ (x : Answer). refused (answerNumber x)) (sym (ran .full h));
             same = λ h. absurd (not-both (there kind e cs used) q h);
           }
 
 -- ---- put back
-module _ (kind : Kind) (e : Envelope) (cmds : List Command) (cs : List (List ℕ)) (used n w : ℕ) (ready : NetReady kind cs used n) (r : Emitted) (cs' : List (List ℕ)) (taken : Taken kind e cmds cs used n w r cs') where
+module _ (kind : Kind) (e : Envelope) (cmds : List Command) (cs : List (List ℕ)) (used n w : ℕ) (ready : NetReady kind cs used n) (r : Emitted)
+    (cs' : List (List ℕ)) (taken : Taken kind e cmds cs used n w r cs') where
   pub back-done : isDone (r .answer) ≡ true → Delivered kind e cmds cs used n w r cs'
   back-done t = record {
     room = taken .room;
@@ -167,7 +184,8 @@ module _ (kind : Kind) (e : Envelope) (cmds : List Command) (cs : List (List ℕ
     stops = taken .stops;
   }
 
-  pub back-again : isDone (r .answer) ≡ false → (next left : ℕ) → Delivered kind e cmds cs used n w (record { answer = r .answer; used = used; len = n; timers = w; next = next; left = left }) cs
+  pub back-again : isDone (r .answer) ≡ false → (next left : ℕ)
+      → Delivered kind e cmds cs used n w (record { answer = r .answer; used = used; len = n; timers = w; next = next; left = left }) cs
   back-again f next left = record {
     room = refl;
     ready = ready;
@@ -203,5 +221,6 @@ module _ (kind : Kind) (e : Envelope) (cmds : List Command) (cs : List (List ℕ
           let y = fewer-messages e m in
           let g = runs (roomOf cs) (e .dst) cmds (holding (e .dst) hall (delivering e m) (withTimers (listed w) (unstarted []))) (omega arith) (omega arith) in
           absurd (never (taking kind e cmds cs used w hall Nothing (unstarted [])) (g .sys) _
-          (ap (λ (o : Outcome Net). bind o (λ i. runCommands (roomOf cs) (e .dst) cmds (holding (e .dst) hall i (withTimers (listed w) (unstarted []))))) (deliver-is kind e cs used n Nothing ∙ ap (λ (b : Bool). guard b 3 (done (delivering e m))) q) ∙ g .done-is)
+          (ap (λ (o : Outcome Net). bind o (λ i. runCommands (roomOf cs) (e .dst) cmds (holding (e .dst) hall i (withTimers (listed w) (unstarted [])))))
+          (deliver-is kind e cs used n Nothing ∙ ap (λ (b : Bool). guard b 3 (done (delivering e m))) q) ∙ g .done-is)
           (taken .stops p hall Nothing (unstarted [])))

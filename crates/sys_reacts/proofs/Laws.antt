@@ -52,7 +52,8 @@ module _ (next pending room k : ℕ) where
   unfolding refusalOf answerOf choose
   both-fit h g = rw (le-leb k (18446744073709551615 - next) h, le-leb k (room - pending) g)
 
-  pub numbers-out : 18446744073709551615 - next < k → 18446744073709551615 - next ≤ room - pending → NumbersUsedUp ≡ answerOf (refusalOf next pending room k)
+  pub numbers-out : 18446744073709551615 - next < k → 18446744073709551615 - next ≤ room - pending → NumbersUsedUp
+      ≡ answerOf (refusalOf next pending room k)
   unfolding refusalOf answerOf choose
   numbers-out h g = rw (lt-leb k (18446744073709551615 - next) h, le-leb (18446744073709551615 - next) (room - pending) g)
 
@@ -79,13 +80,15 @@ left-of n m k = go (decLt n k) (decLt m k) (decLt m n)
     go (no p) (yes q) r = places q (omega arith)
     go (no p) (no q) r = enough (omega arith) (omega arith)
 
-module _ (i : Id) (d : Durable) (room : ℕ) (os : List InnerCommand) (a : Answer) (e : a ≡ answerOf (refusalOf (d .next .0) (length (d .pending)) room (sends os)))
+module _ (i : Id) (d : Durable) (room : ℕ) (os : List InnerCommand) (a : Answer)
+    (e : a ≡ answerOf (refusalOf (d .next .0) (length (d .pending)) room (sends os)))
     (fits : d .next .0 ≤ 18446744073709551615) (most : length (d .pending) ≤ room) where
   -- Where the answer is Done, numbers and places are enough.
   pub goes-on : isDone a ≡ true → (d .next .0 + sends os ≤ 18446744073709551615) × (length (d .pending) + sends os ≤ room)
   goes-on h = go (left-of (18446744073709551615 - d .next .0) (room - length (d .pending)) (sends os))
     where
-      go : Left (18446744073709551615 - d .next .0) (room - length (d .pending)) (sends os) → (d .next .0 + sends os ≤ 18446744073709551615) × (length (d .pending) + sends os ≤ room)
+      go : Left (18446744073709551615 - d .next .0) (room - length (d .pending)) (sends os) → (d .next .0 + sends os ≤ 18446744073709551615)
+          × (length (d .pending) + sends os ≤ room)
       go (enough p q) = (omega arith, omega arith)
       go (numbers p q) = absurd (not-both (isDone a) h (ap isDone (e ∙ sym (numbers-out (d .next .0) (length (d .pending)) room (sends os) p q))))
       go (places p q) = absurd (not-both (isDone a) h (ap isDone (e ∙ sym (places-out (d .next .0) (length (d .pending)) room (sends os) p q))))
@@ -105,7 +108,8 @@ module _ (i : Id) (d : Durable) (room : ℕ) (os : List InnerCommand) (a : Answe
 
 -- ---- an Ack in front
 module _ (kind : Kind) (me source : Id) (cs : List (List ℕ)) (used n w next limit : ℕ) (ready : NetReady kind cs used n) (os : List InnerCommand) where
-  pub ran-none : (front : List Command) → limit ≡ 0 → Ran kind me (take limit (front ++ asked next os)) cs used w (record { answer = Done; used = used; len = n; timers = w; next = next; left = 0 }) cs
+  pub ran-none : (front : List Command) → limit ≡ 0 → Ran kind me (take limit (front ++ asked next os)) cs used w
+      (record { answer = Done; used = used; len = n; timers = w; next = next; left = 0 }) cs
   unfolding runCommands
   ran-none front e = rw e (record {
     room = refl;
@@ -115,12 +119,14 @@ module _ (kind : Kind) (me source : Id) (cs : List (List ℕ)) (used n w next li
     stops = λ h. absurd (not-both (isDone Done) refl h);
   })
 
-  pub ran-plain : (f : First) → f ≡ first.Nothing → (r : Emitted) (cs' : List (List ℕ)) → Ran kind me (take limit (asked next os)) cs used w r cs' → Ran kind me (take limit (frontOf source f ++ asked next os)) cs used w r cs'
+  pub ran-plain : (f : First) → f ≡ first.Nothing → (r : Emitted) (cs' : List (List ℕ)) → Ran kind me (take limit (asked next os)) cs used w r cs'
+      → Ran kind me (take limit (frontOf source f ++ asked next os)) cs used w r cs'
   unfolding frontOf
   ran-plain f e r cs' ran = rw e ran
 
   module _ (some : 0 < limit) (f : First) (v : Number) (e : f ≡ first.Acked v) (s : Sent) (cs' : List (List ℕ))
-      (ch : (last : LastMessage) → Changed cs used n (send (roomOf cs) (record { src = me; dst = source; msg = Ack v }) (netOf kind last cs used)) s cs') where
+      (ch : (last : LastMessage) → Changed cs used n (send (roomOf cs) (record { src = me; dst = source; msg = Ack v })
+      (netOf kind last cs used)) s cs') where
     cmds : take limit (frontOf source f ++ asked next os) ≡ Send source (Ack v) ∷ take (limit - 1) (asked next os)
     unfolding frontOf
     cmds = rw e (take-first limit (Send source (Ack v)) (asked next os) some)
@@ -128,22 +134,30 @@ module _ (kind : Kind) (me source : Id) (cs : List (List ℕ)) (used n w next li
     pub acked-ready : NetReady kind cs' (s .used) (s .len)
     acked-ready = send-ready kind last.Nothing cs used n ready s cs' _ (ch last.Nothing)
 
-    pub ran-unacked : isDone (s .answer) ≡ false → Ran kind me (take limit (frontOf source f ++ asked next os)) cs used w (record { answer = s .answer; used = used; len = n; timers = w; next = next; left = limit }) cs'
+    pub ran-unacked : isDone (s .answer) ≡ false → Ran kind me (take limit (frontOf source f ++ asked next os)) cs used w
+        (record { answer = s .answer; used = used; len = n; timers = w; next = next; left = limit }) cs'
     unfolding runCommands withNet
     ran-unacked g = record {
       room = ch last.Nothing .room;
       full = sent-full kind last.Nothing cs used n _ s cs' (ch last.Nothing);
       ready = λ h. absurd (not-both (isDone (s .answer)) h g);
       runs = λ h. absurd (not-both (isDone (s .answer)) h g);
-      stops = λ h hall last a. ap (λ (l : List Command). runCommands (roomOf cs) me l (sysIn me hall kind last cs used w a)) cmds ∙ sent-stops kind last cs used n _ s cs' (ch last) _ h;
+      stops =
+          λ h hall last a. ap (λ (l : List Command). runCommands (roomOf cs) me l (sysIn me hall kind last cs used w a)) cmds
+              ∙ sent-stops kind last cs used n _ s cs' (ch last) _ h;
     }
 
-    pub ran-acked : isDone (s .answer) ≡ true → (r : Emitted) (cs'' : List (List ℕ)) → Ran kind me (take (limit - 1) (asked next os)) cs' (s .used) w r cs'' → Ran kind me (take limit (frontOf source f ++ asked next os)) cs used w r cs''
+    pub ran-acked : isDone (s .answer) ≡ true → (r : Emitted) (cs'' : List (List ℕ))
+        → Ran kind me (take (limit - 1) (asked next os)) cs' (s .used) w r cs''
+        → Ran kind me (take limit (frontOf source f ++ asked next os)) cs used w r cs''
     unfolding runCommands withNet
     ran-acked g r cs'' ran =
         let rooms : roomOf cs ≡ roomOf cs' = λ j. record { entries = sym (ch last.Nothing .room) j; copies = mostCopies } in
-        let on : (hall : Around me) (last : LastMessage) (a : Actor) → runCommands (roomOf cs) me (take limit (frontOf source f ++ asked next os)) (sysIn me hall kind last cs used w a) ≡ runCommands (roomOf cs') me (take (limit - 1) (asked next os)) (sysIn me hall kind last cs' (s .used) w a) =
-        λ hall last a. ap (λ (l : List Command). runCommands (roomOf cs) me l (sysIn me hall kind last cs used w a)) cmds ∙ sent-on kind last cs used n _ s cs' (ch last) _ g
+        let on : (hall : Around me) (last : LastMessage) (a : Actor)
+        → runCommands (roomOf cs) me (take limit (frontOf source f ++ asked next os)) (sysIn me hall kind last cs used w a)
+        ≡ runCommands (roomOf cs') me (take (limit - 1) (asked next os)) (sysIn me hall kind last cs' (s .used) w a) =
+        λ hall last a. ap (λ (l : List Command). runCommands (roomOf cs) me l (sysIn me hall kind last cs used w a)) cmds
+            ∙ sent-on kind last cs used n _ s cs' (ch last) _ g
         ∙ ap (λ (c : Room). runCommands c me (take (limit - 1) (asked next os)) (sysIn me hall kind last cs' (s .used) w a)) rooms in
         record {
           room = ran .room ∙ ch last.Nothing .room;
@@ -177,7 +191,8 @@ sent-front source first.Nothing = omega arith
 sent-front source (first.Acked v) = omega arith
 
 -- ---- put back after an 8
-module _ (kind : Kind) (me : Id) (cmds : List Command) (cs : List (List ℕ)) (used n w : ℕ) (ready : NetReady kind cs used n) (r : Emitted) (cs' : List (List ℕ)) (ran : Ran kind me cmds cs used w r cs') where
+module _ (kind : Kind) (me : Id) (cmds : List Command) (cs : List (List ℕ)) (used n w : ℕ) (ready : NetReady kind cs used n) (r : Emitted)
+    (cs' : List (List ℕ)) (ran : Ran kind me cmds cs used w r cs') where
   pub safe-done : isDone (r .answer) ≡ true → Safe kind me cmds cs used n w r cs'
   safe-done t = record {
     room = ran .room;
@@ -188,7 +203,8 @@ module _ (kind : Kind) (me : Id) (cmds : List Command) (cs : List (List ℕ)) (u
     stops = ran .stops;
   }
 
-  pub safe-back : isDone (r .answer) ≡ false → (next left : ℕ) → Safe kind me cmds cs used n w (record { answer = r .answer; used = used; len = n; timers = w; next = next; left = left }) cs
+  pub safe-back : isDone (r .answer) ≡ false → (next left : ℕ)
+      → Safe kind me cmds cs used n w (record { answer = r .answer; used = used; len = n; timers = w; next = next; left = left }) cs
   safe-back f next left = record {
     room = refl;
     ready = ready;
@@ -214,7 +230,8 @@ module _ (kind : Kind) (me : Id) (cmds : List Command) (cs : List (List ℕ)) (u
           let g = runs (roomOf cs) me cmds p (omega arith) (omega arith) in
           absurd (never _ (g .sys) (g .done-is) (ran .stops e hall last.Nothing (unstarted [])))
 
-pub few-sent : (source : Id) (f : First) (next limit k : ℕ) (os : List InnerCommand) → k ≡ sends os → sent (take limit (frontOf source f ++ asked next os)) ≤ k + 1
+pub few-sent : (source : Id) (f : First) (next limit k : ℕ) (os : List InnerCommand) → k ≡ sends os
+    → sent (take limit (frontOf source f ++ asked next os)) ≤ k + 1
 few-sent source f next limit k os e =
     let a = sent-take limit (frontOf source f ++ asked next os) in
     let b = sent-append (frontOf source f) (asked next os) in

@@ -49,8 +49,10 @@ pub record Safe (kind : Kind) (me : Id) (cmds : List Command) (cs : List (List �
   pub ready : NetReady kind cs' (r .used) (r .len)
   pub full : isDone (r .answer) ≡ false → r .answer ≡ NetworkFull
   pub kept : isDone (r .answer) ≡ false → (cs' ≡ cs) × (r .used ≡ used) × (r .len ≡ n) × (r .timers ≡ w)
-  pub runs : isDone (r .answer) ≡ true → (hall : Around me) (last : LastMessage) (a : Actor) → runCommands (roomOf cs) me cmds (sysIn me hall kind last cs used w a) ≡ done (sysIn me hall kind last cs' (r .used) (r .timers) a)
-  pub stops : isDone (r .answer) ≡ false → (hall : Around me) (last : LastMessage) (a : Actor) → runCommands (roomOf cs) me cmds (sysIn me hall kind last cs used w a) ≡ refused 8
+  pub runs : isDone (r .answer) ≡ true → (hall : Around me) (last : LastMessage) (a : Actor)
+      → runCommands (roomOf cs) me cmds (sysIn me hall kind last cs used w a) ≡ done (sysIn me hall kind last cs' (r .used) (r .timers) a)
+  pub stops : isDone (r .answer) ≡ false → (hall : Around me) (last : LastMessage) (a : Actor)
+      → runCommands (roomOf cs) me cmds (sysIn me hall kind last cs used w a) ≡ refused 8
 
 -- The last message after a delivery.
 unfoldable pub lastAfter : Kind → Envelope → LastMessage → LastMessage
@@ -69,14 +71,19 @@ there kind e cs used = isDuplicating kind || present e (netOf kind Nowhere cs us
 pub record Taken (kind : Kind) (e : Envelope) (cmds : List Command) (cs : List (List ℕ)) (used n w : ℕ) (r : Emitted) (cs' : List (List ℕ)) : Type 0 where
   pub room : length cs' ≡ length cs
   pub ready : isDone (r .answer) ≡ true → NetReady kind cs' (r .used) (r .len)
-  pub runs : isDone (r .answer) ≡ true → (hall : Around (e .dst)) (last : LastMessage) (a : Actor) → taking kind e cmds cs used w hall last a ≡ done (sysIn (e .dst) hall kind (lastAfter kind e last) cs' (r .used) (r .timers) a)
-  pub stops : isDone (r .answer) ≡ false → (hall : Around (e .dst)) (last : LastMessage) (a : Actor) → taking kind e cmds cs used w hall last a ≡ refused (answerNumber (r .answer))
+  pub runs : isDone (r .answer) ≡ true → (hall : Around (e .dst)) (last : LastMessage) (a : Actor) → taking kind e cmds cs used w hall last a
+      ≡ done (sysIn (e .dst) hall kind (lastAfter kind e last) cs' (r .used) (r .timers) a)
+  pub stops : isDone (r .answer) ≡ false → (hall : Around (e .dst)) (last : LastMessage) (a : Actor) → taking kind e cmds cs used w hall last a
+      ≡ refused (answerNumber (r .answer))
   pub same : there kind e cs used ≡ false → (cs' ≡ cs) × (r .used ≡ used) × (r .len ≡ n) × (r .timers ≡ w)
 
 -- The same, put back.
-pub record Delivered (kind : Kind) (e : Envelope) (cmds : List Command) (cs : List (List ℕ)) (used n w : ℕ) (r : Emitted) (cs' : List (List ℕ)) : Type 0 where
+pub record Delivered (kind : Kind) (e : Envelope) (cmds : List Command) (cs : List (List ℕ)) (used n w : ℕ) (r : Emitted)
+    (cs' : List (List ℕ)) : Type 0 where
   pub room : length cs' ≡ length cs
   pub ready : NetReady kind cs' (r .used) (r .len)
   pub kept : isDone (r .answer) ≡ false → (cs' ≡ cs) × (r .used ≡ used) × (r .len ≡ n) × (r .timers ≡ w)
-  pub runs : isDone (r .answer) ≡ true → (hall : Around (e .dst)) (last : LastMessage) (a : Actor) → taking kind e cmds cs used w hall last a ≡ done (sysIn (e .dst) hall kind (lastAfter kind e last) cs' (r .used) (r .timers) a)
-  pub stops : isDone (r .answer) ≡ false → (hall : Around (e .dst)) (last : LastMessage) (a : Actor) → taking kind e cmds cs used w hall last a ≡ refused (answerNumber (r .answer))
+  pub runs : isDone (r .answer) ≡ true → (hall : Around (e .dst)) (last : LastMessage) (a : Actor) → taking kind e cmds cs used w hall last a
+      ≡ done (sysIn (e .dst) hall kind (lastAfter kind e last) cs' (r .used) (r .timers) a)
+  pub stops : isDone (r .answer) ≡ false → (hall : Around (e .dst)) (last : LastMessage) (a : Actor) → taking kind e cmds cs used w hall last a
+      ≡ refused (answerNumber (r .answer))

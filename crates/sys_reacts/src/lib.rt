@@ -81,7 +81,8 @@ pub fn run_row(
     first: First,
 ) -> Emitted
     requires { ⌜ NetReady kind (now c) used len × RowLaid (now row) × (next + sends (orders (now row) source value) ≤ 18446744073709551615) ⌝ }
-    ensures { λ r. ⌜ Ran kind me (take limit (frontOf source first ++ asked next (orders (now (row .entry)) source value))) (now (c .entry)) used timers r (now (c .exit)) ⌝ }
+    ensures { λ r. ⌜ Ran kind me (take limit (frontOf source first ++ asked next (orders (now (row .entry)) source value))) (now (c .entry)) used timers r
+            (now (c .exit)) ⌝ }
 {
     match first {
         First::Nothing => emit(
@@ -157,8 +158,10 @@ pub fn react_row(
     limit: usize,
     first: First,
 ) -> Emitted
-    requires { ⌜ NetReady kind (now c) used len × RowLaid (now row) × (next + sends (orders (now row) source value) ≤ 18446744073709551615) × (length (now c) ≡ mostEntries) ⌝ }
-    ensures { λ r. ⌜ Safe kind me (take limit (frontOf source first ++ asked next (orders (now (row .entry)) source value))) (now (c .entry)) used len timers r (now (c .exit)) ⌝ }
+    requires { ⌜ NetReady kind (now c) used len × RowLaid (now row) × (next + sends (orders (now row) source value) ≤ 18446744073709551615)
+            × (length (now c) ≡ mostEntries) ⌝ }
+    ensures { λ r. ⌜ Safe kind me (take limit (frontOf source first ++ asked next (orders (now (row .entry)) source value)))
+            (now (c .entry)) used len timers r (now (c .exit)) ⌝ }
 {
     let n = row[14];
     if roomy(MOST_ENTRIES, used, len, n + 1) {
@@ -222,7 +225,8 @@ fn take_row(
     limit: usize,
 ) -> Emitted
     requires { ⌜ NetReady kind (now c) used len × RowLaid (now row) × (next + sends (orders (now row) (e .src) value) ≤ 18446744073709551615) ⌝ }
-    ensures { λ r. ⌜ Taken kind e (take limit (frontOf (e .src) (Acked number) ++ asked next (orders (now (row .entry)) (e .src) value))) (now (c .entry)) used len timers r (now (c .exit)) ⌝ }
+    ensures { λ r. ⌜ Taken kind e (take limit (frontOf (e .src) (Acked number) ++ asked next (orders (now (row .entry)) (e .src) value)))
+            (now (c .entry)) used len timers r (now (c .exit)) ⌝ }
 {
     let s = net_rows::on_deliver(c, kind, used, len, e);
     let a = s.answer;
@@ -268,8 +272,10 @@ pub fn deliver_row(
     next: u64,
     limit: usize,
 ) -> Emitted
-    requires { ⌜ NetReady kind (now c) used len × RowLaid (now row) × (next + sends (orders (now row) (e .src) value) ≤ 18446744073709551615) × (length (now c) ≡ mostEntries) ⌝ }
-    ensures { λ r. ⌜ Delivered kind e (take limit (frontOf (e .src) (Acked number) ++ asked next (orders (now (row .entry)) (e .src) value))) (now (c .entry)) used len timers r (now (c .exit)) ⌝ }
+    requires { ⌜ NetReady kind (now c) used len × RowLaid (now row) × (next + sends (orders (now row) (e .src) value) ≤ 18446744073709551615)
+            × (length (now c) ≡ mostEntries) ⌝ }
+    ensures { λ r. ⌜ Delivered kind e (take limit (frontOf (e .src) (Acked number) ++ asked next (orders (now (row .entry)) (e .src) value)))
+            (now (c .entry)) used len timers r (now (c .exit)) ⌝ }
 {
     let n = row[14];
     if roomy(MOST_ENTRIES, used, len, n + 1) {

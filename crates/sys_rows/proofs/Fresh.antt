@@ -18,7 +18,8 @@ use Rattle.sys_rows.specs.Rows.{storedIn, actorOf, freshRow, RowsLaid}
 use Rattle.sys_rows.proofs.Laws.{tail-at}
 
 -- A row of which all but the next number is zero, and any pending records.
-none-used : (w : List ℕ) (p : List (List ℕ)) → length w ≡ rowSize → ((i : ℕ) → getD w (1 + i) 0 ≡ 0) → length p ≡ mostPending → RowsLaid w p
+none-used : (w : List ℕ) (p : List (List ℕ)) → length w ≡ rowSize → ((i : ℕ) → getD w (1 + i) 0 ≡ 0) → length p ≡ mostPending
+    → RowsLaid w p
 none-used w p room z places =
     let e1 = z 0 in
     let e2 = z 1 in
@@ -58,7 +59,8 @@ module _ (p : List (List ℕ)) where
   zero-laid h = none-used (replicate rowSize 0) p refl (λ i. zeros rowSize (1 + i)) h
 
 -- An actor before any start.
-pub fresh-actor : (rs : List Rule) (p : List (List ℕ)) (k : List ℕ) (q : List (List ℕ)) → getD k 5 0 ≡ 0 → actorOf rs freshRow p k q ≡ unstarted rs
+pub fresh-actor : (rs : List Rule) (p : List (List ℕ)) (k : List ℕ) (q : List (List ℕ)) → getD k 5 0 ≡ 0 → actorOf rs freshRow p k q
+    ≡ unstarted rs
 unfolding actorOf unstarted storedIn listed listedFrom choose
 fresh-actor rs p k q e =
     let d = fresh-durable p in

@@ -76,7 +76,8 @@ module _ (c : Caps) (i : Id) (h : Around i) (n : Net) (a : Actor) where
   knows = known-held i ∙ lt-ltb (i .0) count (h .there)
 
   -- A handler's commands, with its link in the seat.
-  pub finishes : (d : Did) → systems (bind (planned i here d) (perform (c .room))) ≡ runCommands (c .room) i (d .commands) (holding i h n (withLink (d .link) a))
+  pub finishes : (d : Did) → systems (bind (planned i here d) (perform (c .room)))
+      ≡ runCommands (c .room) i (d .commands) (holding i h n (withLink (d .link) a))
   unfolding planned bind
   finishes d = performs (c .room) _ ∙ ap (runCommands (c .room) i (d .commands)) (seat-change i h n a (λ b. withLink (d .link) b))
 
@@ -106,7 +107,8 @@ module _ (c : Caps) (i : Id) (h : Around i) (n : Net) (a : Actor) where
       ≡ guard (a .crashed) 4 (systems (bind (wake (c .limits) i (holding i h n (withMark false (a .timers) a))) (perform (c .room))))
   unfolding act recover
   seat-recover =
-      ap systems (bind-guard _ _ _ _ ∙ ap (guard (known (holding i h n a) i) 2) (bind-guard _ _ _ _)) ∙ systems-guard _ _ _ ∙ ap (guard _ 2) (systems-guard _ _ _)
+      ap systems (bind-guard _ _ _ _ ∙ ap (guard (known (holding i h n a) i) 2) (bind-guard _ _ _ _)) ∙ systems-guard _ _ _
+      ∙ ap (guard _ 2) (systems-guard _ _ _)
       ∙ ap (λ (b : Bool). guard b 2 (guard (actor (holding i h n a) i .crashed) 4
       (rest (withActor i (withMark false (actor (holding i h n a) i .timers) (actor (holding i h n a) i)) (holding i h n a))))) (knows c i h n a)
       ∙ go
@@ -127,9 +129,11 @@ module _ (c : Caps) (i : Id) (h : Around i) (n : Net) (a : Actor) where
       (runCommands (c .room) i (d .commands) (holding i h n (withLink (d .link) (withTimers (cancelTimer t (a .timers)) a)))))))
   unfolding act timeout timed
   seat-timeout t =
-      ap systems (bind-guard _ _ _ _ ∙ ap (guard (known (holding i h n a) i && leb t network) 2) (bind-guard _ _ _ _)) ∙ systems-guard _ _ _ ∙ ap (guard _ 2) (systems-guard _ _ _)
+      ap systems (bind-guard _ _ _ _ ∙ ap (guard (known (holding i h n a) i && leb t network) 2) (bind-guard _ _ _ _)) ∙ systems-guard _ _ _
+      ∙ ap (guard _ 2) (systems-guard _ _ _)
       ∙ ap (λ (b : Bool). guard (b && leb t network) 2 (guard (isSet t (actor (holding i h n a) i .timers)) 5 (systems (bind (bind
-      (onTimeout (c .limits) i (actor (holding i h n a) i .rules) (actor (holding i h n a) i .link) t) (timed i t (holding i h n a))) (perform (c .room)))))) (knows c i h n a)
+      (onTimeout (c .limits) i (actor (holding i h n a) i .rules) (actor (holding i h n a) i .link) t) (timed i t (holding i h n a))) (perform (c .room))))))
+      (knows c i h n a)
       ∙ ap (λ (b : Actor). guard (leb t network) 2 (guard (isSet t (b .timers)) 5 (systems (bind (bind
       (onTimeout (c .limits) i (b .rules) (b .link) t) (timed i t (holding i h n a))) (perform (c .room)))))) (held i h n a)
       ∙ ap (λ (m : Outcome Sys). guard (leb t network) 2 (guard (isSet t (a .timers)) 5 m))
@@ -140,8 +144,10 @@ module _ (c : Caps) (i : Id) (h : Around i) (n : Net) (a : Actor) where
           (runCommands (c .room) i (d .commands) (holding i h n (withLink (d .link) (withTimers (cancelTimer t (a .timers)) a))))
       went d =
           ap systems (bind-guard _ _ _ _) ∙ systems-guard _ _ _
-          ∙ ap (λ (s : Sys). ignoredIf (not (d .touched) && onlySets t (d .commands)) (systems (bind (planned i s d) (perform (c .room))))) (seat-change i h n a (λ b. withTimers (cancelTimer t (b .timers)) b))
-          ∙ ap (λ (m : Outcome Sys). ignoredIf (not (d .touched) && onlySets t (d .commands)) m) (finishes c i h n (withTimers (cancelTimer t (a .timers)) a) d)
+          ∙ ap (λ (s : Sys). ignoredIf (not (d .touched) && onlySets t (d .commands)) (systems (bind (planned i s d) (perform (c .room)))))
+          (seat-change i h n a (λ b. withTimers (cancelTimer t (b .timers)) b))
+          ∙ ap (λ (m : Outcome Sys). ignoredIf (not (d .touched) && onlySets t (d .commands)) m)
+          (finishes c i h n (withTimers (cancelTimer t (a .timers)) a) d)
 
 -- A message to the seat.
 module _ (c : Caps) (e : Envelope) (h : Around (e .dst)) (n : Net) (a : Actor) where

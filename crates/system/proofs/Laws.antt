@@ -142,7 +142,8 @@ module _ (m : rules.Sys) (ok : wellFormed base m ≡ true) where
   f = formed-of m ok
 
   mapped : {B : Type 0} (g : rules.Actor → B) (z : B) → take (length (m .actors)) (pad mostActors z (map g (m .actors))) ≡ map g (m .actors)
-  mapped {B} g z = ap (λ (k : ℕ). take k (pad mostActors z (map g (m .actors)))) (sym (length-map (m .actors) g)) ∙ pad-view mostActors z (map g (m .actors))
+  mapped {B} g z =
+      ap (λ (k : ℕ). take k (pad mostActors z (map g (m .actors)))) (sym (length-map (m .actors) g)) ∙ pad-view mostActors z (map g (m .actors))
 
   few-entries : length (m .net .entries) ≤ mostEntries
   few-entries = few-of (length (m .actors)) (m .net) (f .net)
@@ -270,7 +271,8 @@ module _ (s : System) (y : SystemTyped s) where
         one = omega arith;
         few = omega arith;
         net = subst (λ (k : ℕ). netOk (base .room) k (netView (s .network)) ≡ true) (sym n) (w .1);
-        actors = subst (λ (k : ℕ). all (actorOk (base .limits) k) (sysView s .actors) ≡ true) (sym n) (seats-formed (s .count) (ts s y) (bs s y) (t .0) (d .0));
+        actors =
+            subst (λ (k : ℕ). all (actorOk (base .limits) k) (sysView s .actors) ≡ true) (sym n) (seats-formed (s .count) (ts s y) (bs s y) (t .0) (d .0));
       })) every-nil)
 
   pub fine-tests : systemFine s ≡ every tests

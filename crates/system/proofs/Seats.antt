@@ -39,7 +39,8 @@ module _ {A B C : Type 0} (f : A → B → C) where
   zip-get (x ∷ xs) (y ∷ ys) (suc i) a b c h k = zip-get xs ys i a b c (omega arith) (omega arith)
 
 -- ---- the arrays again
-pub actors-again : (ts : List Table) (bs : List Actor) → length ts ≡ length bs → ((a : Actor) → a ∈ bs → ActorLaid a) → bs ≡ map actorAs (zipWith seated ts bs)
+pub actors-again : (ts : List Table) (bs : List Actor) → length ts ≡ length bs → ((a : Actor) → a ∈ bs → ActorLaid a) → bs
+    ≡ map actorAs (zipWith seated ts bs)
 unfolding zipWith
 actors-again [] [] e f = refl
 actors-again [] (a ∷ bs) e f = absurd (omega arith)
@@ -47,7 +48,8 @@ actors-again (t ∷ ts) [] e f = refl
 actors-again (t ∷ ts) (a ∷ bs) e f =
     ap₂ (λ (x : Actor) (l : List Actor). x ∷ l) (f a (List·Memᴰ·head refl)) (actors-again ts bs (omega arith) (λ b m. f b (List·Memᴰ·tail m)))
 
-pub tables-again : (ts : List Table) (bs : List Actor) → length ts ≡ length bs → ((t : Table) → t ∈ ts → TableLaid t) → ts ≡ map tableFor (zipWith seated ts bs)
+pub tables-again : (ts : List Table) (bs : List Actor) → length ts ≡ length bs → ((t : Table) → t ∈ ts → TableLaid t) → ts
+    ≡ map tableFor (zipWith seated ts bs)
 unfolding zipWith
 tables-again [] [] e f = refl
 tables-again [] (a ∷ bs) e f = refl

@@ -49,7 +49,8 @@ module _ {A : Type 0} (p : A → Bool) (z : A) (passes : p z ≡ true) where
 pub drop-in : {A : Type 0} (n : ℕ) (l : List A) (x : A) → x ∈ drop n l → x ∈ l
 drop-in {A} n l x m = subst (λ (k : List A). x ∈ k) (take-append-drop n l) (Memᴰ·append-right (take n l) m)
 
-pub rest-same : {A : Type 0} (z : A) (n : ℕ) (es : List A) (used : ℕ) → length es ≡ n → used ≤ n → drop used es ≡ replicate (length (drop used es)) z
+pub rest-same : {A : Type 0} (z : A) (n : ℕ) (es : List A) (used : ℕ) → length es ≡ n → used ≤ n → drop used es
+    ≡ replicate (length (drop used es)) z
     → es ≡ pad n z (take used es)
 unfolding pad
 rest-same {A} z n es used h k e =

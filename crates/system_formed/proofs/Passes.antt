@@ -30,6 +30,7 @@ pub tables-used : (l : List Table) → all tableOk l ≡ all (tablePasses false)
 unfolding choose
 tables-used l = refl
 
-pub tables-free : (from : ℕ) (l : List Table) → length l ≡ mostActors → all blankTable (drop from l) ≡ all (tablePasses true) (drop from (take mostActors l))
+pub tables-free : (from : ℕ) (l : List Table) → length l ≡ mostActors → all blankTable (drop from l)
+    ≡ all (tablePasses true) (drop from (take mostActors l))
 unfolding choose
 tables-free from l n = sym (take-whole blankTable l mostActors from n)

@@ -75,7 +75,8 @@ module _ (k : ℕ) (x : Rows) (h : Hall) (z : Sized h) (inside : k < mostActors)
       λ j. record { cells = x .cells; live = a j; pend = b j; kept = c j; stored = d j }
 
 -- ---- the system around a seat
-module _ (count : ℕ) (kind : Kind) (b : Books) (cs : List (List ℕ)) (h : Hall) (z : Sized h) (few : count ≤ mostActors) (k : ℕ) (inside : k < count) where
+module _ (count : ℕ) (kind : Kind) (b : Books) (cs : List (List ℕ)) (h : Hall) (z : Sized h) (few : count ≤ mostActors) (k : ℕ)
+    (inside : k < count) where
   abbrev me : Id
   me = record { 0 = k }
 

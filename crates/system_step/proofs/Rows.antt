@@ -100,7 +100,8 @@ module _ {kind : Kind} {used n : ℕ} {x : Rows} (fine : Fine kind used n x) (la
 
 -- ---- the action on the rows
 module _ (count : ℕ) (n : Network) (b : Actor) (t : Table) (ready : NetReady n) (cs : List (List ℕ)) (out : LaidOut (entryList n) cs)
-    (w : List ℕ) (p : List (List ℕ)) (k : List ℕ) (q : List (List ℕ)) (laid : actor.LaidOut b w p k q) (size : ℕ) (sum : size ≡ len (entryList n)) where
+    (w : List ℕ) (p : List (List ℕ)) (k : List ℕ) (q : List (List ℕ)) (laid : actor.LaidOut b w p k q) (size : ℕ)
+    (sum : size ≡ len (entryList n)) where
   abbrev x : Rows
   x = rowsOf cs w p k q
 

@@ -74,7 +74,8 @@ module _ (l : List ℕ) where
   unfolding pairSize choose
   sized = go (eqb (partSize l) 0) (eqb (partSize (second l)) 0) refl refl
     where
-      go : (a b : Bool) → eqb (partSize l) 0 ≡ a → eqb (partSize (second l)) 0 ≡ b → Sized (choose a 0 (choose b 0 (partSize l + partSize (second l))))
+      go : (a b : Bool) → eqb (partSize l) 0 ≡ a → eqb (partSize (second l)) 0 ≡ b
+          → Sized (choose a 0 (choose b 0 (partSize l + partSize (second l))))
       go true b e f = cut
       go false true e f = cut
       go false false e f =
@@ -125,12 +126,14 @@ same-equal false l m f g = go (equal l m) refl
     go false e = refl
 
 -- What the replay left at the start of a buffer that it fits.
-took : (w out left : List ℕ) (r : ℕ) → r ≡ length w → r ≤ length out → left ≡ choose (leb r (length out)) (w ++ drop r out) out → take r left ≡ w
+took : (w out left : List ℕ) (r : ℕ) → r ≡ length w → r ≤ length out → left ≡ choose (leb r (length out)) (w ++ drop r out) out → take r left
+    ≡ w
 unfolding choose
 took w out left r e h k =
     ap (λ (x : List ℕ). take r x) (k ∙ ap (λ (b : Bool). choose b (w ++ drop r out) out) (le-leb r (length out) h)) ∙ take-at w (drop r out) r (sym e)
 
-pub taken-size : (w out left : List ℕ) {r : ℕ} → large ≡ length out → r ≡ length w → r ≤ large → left ≡ choose (leb r (length out)) (w ++ drop r out) out
+pub taken-size : (w out left : List ℕ) {r : ℕ} → large ≡ length out → r ≡ length w → r ≤ large → left
+    ≡ choose (leb r (length out)) (w ++ drop r out) out
     → r ≡ length (take r left)
 taken-size w out left {r} n e h k = e ∙ sym (ap length (took w out left r e (omega arith) k))
 

@@ -14,7 +14,8 @@ use Rattle.link_durable.proofs.pendings_pass.Statement.{statement}
 use Rattle.link_durable.proofs.pendings_pass.Tie as tie
 
 abbrev Inv-loop : tie.InvT-loop
-Inv-loop free next from to records i₀ i = all (pendingPasses free next) (drop i (take to records)) ≡ all (pendingPasses free next) (drop i₀ (take to records))
+Inv-loop free next from to records i₀ i =
+    all (pendingPasses free next) (drop i (take to records)) ≡ all (pendingPasses free next) (drop i₀ (take to records))
 
 abbrev μ-loop : tie.MeasureT-loop
 μ-loop free next from to records i₀ i = to - i

@@ -73,7 +73,8 @@ returns c =
       l .inv .4,
       filled (subst (λ (k : ℕ). Filled (a .out .now) (l .out) (a .at) k (a .at + c .before .before .width .result) (l .m) (length (decimal (a .n))) (a .n)) e
           (l .inv .5))
-          ∙ ap (λ (d : List ℕ). take (a .at) (a .out .now) ++ (d ++ drop (a .at + c .before .before .width .result) (a .out .now))) (sym (decimal-last (a .n))),
+          ∙ ap (λ (d : List ℕ). take (a .at) (a .out .now) ++ (d ++ drop (a .at + c .before .before .width .result) (a .out .now)))
+          (sym (decimal-last (a .n))),
     )
 
 pub write-decimal-spec : {M : Type 1} → statement M

@@ -13,7 +13,8 @@ put-number-requires c κs = room-first (32 ∷ decimal _) _ (c .before .before .
 
 put-last-requires : tie.Need-put-last-requires
 unfolding spaced
-put-last-requires c κs = room-then (32 ∷ decimal _) _ (c .before .before .before .before .before .before .pre) (c .before .before .before .put-number .ensures)
+put-last-requires c κs =
+    room-then (32 ∷ decimal _) _ (c .before .before .before .before .before .before .pre) (c .before .before .before .put-number .ensures)
 
 same-length : tie.Need-same-length
 same-length c = search needs

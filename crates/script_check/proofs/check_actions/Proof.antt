@@ -13,7 +13,8 @@ use Rattle.script_check.proofs.check_actions.Tie as tie
 
 -- The layout from the first place on is that from this place on.
 abbrev Inv-loop : tie.InvT-loop
-Inv-loop script from f all at₀ at = (layoutOf (actionsFrom f (drop from script) from) ≡ layoutOf (actionsFrom f (drop at script) at)) × (all ≡ length script)
+Inv-loop script from f all at₀ at =
+    (layoutOf (actionsFrom f (drop from script) from) ≡ layoutOf (actionsFrom f (drop at script) at)) × (all ≡ length script)
 
 abbrev μ-loop : tie.MeasureT-loop
 μ-loop script from f all at₀ at = length script - at

@@ -32,9 +32,11 @@ returns c =
     let a = s .args in
     let x = rowsOf (a .c .now) (a .live .now) (a .pend .now) (a .kept .now) (a .stored .now) in
     let rs = rulesIn (a .table .now) (a .rules) in
-    let k = c .before .before .before .before .before .before .known .ensures ∙ ap (λ (i : Id). ltb (i .0) (a .count)) (c .before .before .before .before .before .before .before .actor-of .ensures) in
+    let k = c .before .before .before .before .before .before .known .ensures
+    ∙ ap (λ (i : Id). ltb (i .0) (a .count)) (c .before .before .before .before .before .before .before .actor-of .ensures) in
     as-told (a .count) rs (a .kind) (a .used) (a .len) x (a .a) (seatOf (a .count) (a .a)) _ _ x (c .answered .ensures)
-    (no-deliver (a .count) rs (a .kind) (a .used) (a .len) x (s .pre .0) (a .a) _ (c .before .before .before .before .a .given .1) (sym k ∙ not-true _ (c .before .before .if1 .taken))
+    (no-deliver (a .count) rs (a .kind) (a .used) (a .len) x (s .pre .0) (a .a) _ (c .before .before .before .before .a .given .1)
+    (sym k ∙ not-true _ (c .before .before .if1 .taken))
     _ (c .before .unheard .ensures))
 
 deliver-requires : tie.Need-deliver-requires
@@ -58,17 +60,21 @@ returns-2 c =
     let a = s .args in
     let x = rowsOf (a .c .now) (a .live .now) (a .pend .now) (a .kept .now) (a .stored .now) in
     let rs = rulesIn (a .table .now) (a .rules) in
-    let k = c .before .before .before .before .before .known .ensures ∙ ap (λ (i : Id). ltb (i .0) (a .count)) (c .before .before .before .before .before .before .actor-of .ensures) in
+    let k = c .before .before .before .before .before .known .ensures
+    ∙ ap (λ (i : Id). ltb (i .0) (a .count)) (c .before .before .before .before .before .before .actor-of .ensures) in
     as-told (a .count) rs (a .kind) (a .used) (a .len) x (a .a) (seatOf (a .count) (a .a)) _ _ x (c .answered2 .ensures)
-    (no-timeout (a .count) rs (a .kind) (a .used) (a .len) x (s .pre .0) (a .a) _ _ (c .before .before .before .a3 .given .1) (sym k ∙ not-true _ (c .before .if2 .taken)))
+    (no-timeout (a .count) rs (a .kind) (a .used) (a .len) x (s .pre .0) (a .a) _ _ (c .before .before .before .a3 .given .1)
+    (sym k ∙ not-true _ (c .before .if2 .taken)))
 
 timeout-requires : tie.Need-timeout-requires
 unfolding target
 timeout-requires c κs =
     let s = c .before .before .before .before .before .before .before .before .before .before .before in
     let a = s .args in
-    let k = c .before .before .before .before .before .before .before .before .before .known .ensures ∙ ap (λ (i : Id). ltb (i .0) (a .count)) (c .before .before .before .before .before .before .before .before .before .before .actor-of .ensures) in
-    (s .pre .0, s .pre .1, below (a .count) (a .a) _ (c .before .before .before .before .before .before .before .a3 .given .1) (sym k ∙ not-false _ (c .before .before .before .before .before .if2 .left)))
+    let k = c .before .before .before .before .before .before .before .before .before .known .ensures
+    ∙ ap (λ (i : Id). ltb (i .0) (a .count)) (c .before .before .before .before .before .before .before .before .before .before .actor-of .ensures) in
+    (s .pre .0, s .pre .1, below (a .count) (a .a) _ (c .before .before .before .before .before .before .before .a3 .given .1)
+    (sym k ∙ not-false _ (c .before .before .before .before .before .if2 .left)))
 
 enum-told : tie.Need-enum-told
 enum-told c = search needs
@@ -82,9 +88,11 @@ returns-3 c =
     let a = s .args in
     let x = rowsOf (a .c .now) (a .live .now) (a .pend .now) (a .kept .now) (a .stored .now) in
     let rs = rulesIn (a .table .now) (a .rules) in
-    let k = c .before .before .before .before .known .ensures ∙ ap (λ (i : Id). ltb (i .0) (a .count)) (c .before .before .before .before .before .actor-of .ensures) in
+    let k = c .before .before .before .before .known .ensures
+    ∙ ap (λ (i : Id). ltb (i .0) (a .count)) (c .before .before .before .before .before .actor-of .ensures) in
     as-told (a .count) rs (a .kind) (a .used) (a .len) x (a .a) (seatOf (a .count) (a .a)) _ _ x (c .answered3 .ensures)
-    (no-crash (a .count) rs (a .kind) (a .used) (a .len) x (s .pre .0) (a .a) _ (c .before .before .enum-told .given .1) (sym k ∙ not-true _ (c .before .if3 .taken)))
+    (no-crash (a .count) rs (a .kind) (a .used) (a .len) x (s .pre .0) (a .a) _ (c .before .before .enum-told .given .1)
+    (sym k ∙ not-true _ (c .before .if3 .taken)))
 
 crash-requires : tie.Need-crash-requires
 crash-requires c κs = c .before .before .before .before .before .before .pre .0 .live .room
@@ -104,17 +112,21 @@ returns-4 c =
     let a = s .args in
     let x = rowsOf (a .c .now) (a .live .now) (a .pend .now) (a .kept .now) (a .stored .now) in
     let rs = rulesIn (a .table .now) (a .rules) in
-    let k = c .before .before .before .before .before .known .ensures ∙ ap (λ (i : Id). ltb (i .0) (a .count)) (c .before .before .before .before .before .before .actor-of .ensures) in
+    let k = c .before .before .before .before .before .known .ensures
+    ∙ ap (λ (i : Id). ltb (i .0) (a .count)) (c .before .before .before .before .before .before .actor-of .ensures) in
     as-told (a .count) rs (a .kind) (a .used) (a .len) x (a .a) (seatOf (a .count) (a .a)) _ _ x (c .answered5 .ensures)
-    (no-recover (a .count) rs (a .kind) (a .used) (a .len) x (s .pre .0) (a .a) _ (c .before .before .before .a4 .given .1) (sym k ∙ not-true _ (c .before .if4 .taken)))
+    (no-recover (a .count) rs (a .kind) (a .used) (a .len) x (s .pre .0) (a .a) _ (c .before .before .before .a4 .given .1)
+    (sym k ∙ not-true _ (c .before .if4 .taken)))
 
 recover-requires : tie.Need-recover-requires
 unfolding target
 recover-requires c κs =
     let s = c .before .before .before .before .before .before .before .before .before .before .before in
     let a = s .args in
-    let k = c .before .before .before .before .before .before .before .before .before .known .ensures ∙ ap (λ (i : Id). ltb (i .0) (a .count)) (c .before .before .before .before .before .before .before .before .before .before .actor-of .ensures) in
-    (s .pre .0, s .pre .1, below (a .count) (a .a) _ (c .before .before .before .before .before .before .before .a4 .given .1) (sym k ∙ not-false _ (c .before .before .before .before .before .if4 .left)))
+    let k = c .before .before .before .before .before .before .before .before .before .known .ensures
+    ∙ ap (λ (i : Id). ltb (i .0) (a .count)) (c .before .before .before .before .before .before .before .before .before .before .actor-of .ensures) in
+    (s .pre .0, s .pre .1, below (a .count) (a .a) _ (c .before .before .before .before .before .before .before .a4 .given .1)
+    (sym k ∙ not-false _ (c .before .before .before .before .before .if4 .left)))
 
 returns-5 : tie.Need-returns-5
 unfolding target
@@ -123,9 +135,13 @@ returns-5 c =
     let a = s .args in
     let x = rowsOf (a .c .now) (a .live .now) (a .pend .now) (a .kept .now) (a .stored .now) in
     let rs = rulesIn (a .table .now) (a .rules) in
-    let k = c .before .before .before .before .before .before .before .before .before .before .before .known .ensures ∙ ap (λ (i : Id). ltb (i .0) (a .count)) (c .before .before .before .before .before .before .before .before .before .before .before .before .actor-of .ensures) in
+    let k = c .before .before .before .before .before .before .before .before .before .before .before .known .ensures
+    ∙ ap (λ (i : Id). ltb (i .0) (a .count)) (c .before .before .before .before .before .before .before .before .before .before .before .before .actor-of
+    .ensures) in
     let g = c .deliver in
-    stepped-at (a .count) rs (a .kind) (a .used) (a .len) x (a .a) _ (c .before .before .before .before .before .before .before .before .before .a .given .1) _ k (not-false _ (c .before .before .before .before .before .before .before .if1 .left)) (g .result)
+    stepped-at (a .count) rs (a .kind) (a .used) (a .len) x (a .a) _
+    (c .before .before .before .before .before .before .before .before .before .a .given .1) _ k
+    (not-false _ (c .before .before .before .before .before .before .before .if1 .left)) (g .result)
     (rowsOf (g .last .0) (g .last .1 .0) (g .last .1 .1 .0) (g .last .1 .1 .1 .0) (g .last .1 .1 .1 .1 .0)) (g .ensures)
 
 returns-6 : tie.Need-returns-6
@@ -144,9 +160,12 @@ returns-7 c =
     let a = s .args in
     let x = rowsOf (a .c .now) (a .live .now) (a .pend .now) (a .kept .now) (a .stored .now) in
     let rs = rulesIn (a .table .now) (a .rules) in
-    let k = c .before .before .before .before .before .before .before .before .before .before .known .ensures ∙ ap (λ (i : Id). ltb (i .0) (a .count)) (c .before .before .before .before .before .before .before .before .before .before .before .actor-of .ensures) in
+    let k = c .before .before .before .before .before .before .before .before .before .before .known .ensures
+    ∙ ap (λ (i : Id). ltb (i .0) (a .count)) (c .before .before .before .before .before .before .before .before .before .before .before .actor-of .ensures)
+    in
     let g = c .timeout in
-    stepped-at (a .count) rs (a .kind) (a .used) (a .len) x (a .a) _ (c .before .before .before .before .before .before .before .before .a3 .given .1) _ k (not-false _ (c .before .before .before .before .before .before .if2 .left)) (g .result)
+    stepped-at (a .count) rs (a .kind) (a .used) (a .len) x (a .a) _ (c .before .before .before .before .before .before .before .before .a3 .given .1) _ k
+    (not-false _ (c .before .before .before .before .before .before .if2 .left)) (g .result)
     (rowsOf (g .last .0) (g .last .1 .0) (g .last .1 .1 .0) (g .last .1 .1 .1 .0) (g .last .1 .1 .1 .1 .0)) (g .ensures)
 
 returns-8 : tie.Need-returns-8
@@ -156,9 +175,11 @@ returns-8 c =
     let a = s .args in
     let x = rowsOf (a .c .now) (a .live .now) (a .pend .now) (a .kept .now) (a .stored .now) in
     let rs = rulesIn (a .table .now) (a .rules) in
-    let k = c .before .before .before .before .before .before .known .ensures ∙ ap (λ (i : Id). ltb (i .0) (a .count)) (c .before .before .before .before .before .before .before .actor-of .ensures) in
+    let k = c .before .before .before .before .before .before .known .ensures
+    ∙ ap (λ (i : Id). ltb (i .0) (a .count)) (c .before .before .before .before .before .before .before .actor-of .ensures) in
     as-told (a .count) rs (a .kind) (a .used) (a .len) x (a .a) (seatOf (a .count) (a .a)) _ _ _ (c .answered4 .ensures)
-    (stepped-at (a .count) rs (a .kind) (a .used) (a .len) x (a .a) _ (c .before .before .before .before .enum-told .given .1) _ k (not-false _ (c .before .before .before .if3 .left)) _ _
+    (stepped-at (a .count) rs (a .kind) (a .used) (a .len) x (a .a) _ (c .before .before .before .before .enum-told .given .1) _ k
+    (not-false _ (c .before .before .before .if3 .left)) _ _
     (crashes (a .count) rs (a .kind) (a .used) (a .len) x (s .pre .0) _ (c .before .crash .last .0) (c .before .crash .ensures) _ refl))
 
 returns-9 : tie.Need-returns-9
@@ -168,9 +189,12 @@ returns-9 c =
     let a = s .args in
     let x = rowsOf (a .c .now) (a .live .now) (a .pend .now) (a .kept .now) (a .stored .now) in
     let rs = rulesIn (a .table .now) (a .rules) in
-    let k = c .before .before .before .before .before .before .before .before .before .before .known .ensures ∙ ap (λ (i : Id). ltb (i .0) (a .count)) (c .before .before .before .before .before .before .before .before .before .before .before .actor-of .ensures) in
+    let k = c .before .before .before .before .before .before .before .before .before .before .known .ensures
+    ∙ ap (λ (i : Id). ltb (i .0) (a .count)) (c .before .before .before .before .before .before .before .before .before .before .before .actor-of .ensures)
+    in
     let g = c .recover in
-    stepped-at (a .count) rs (a .kind) (a .used) (a .len) x (a .a) _ (c .before .before .before .before .before .before .before .before .a4 .given .1) _ k (not-false _ (c .before .before .before .before .before .before .if4 .left)) (g .result)
+    stepped-at (a .count) rs (a .kind) (a .used) (a .len) x (a .a) _ (c .before .before .before .before .before .before .before .before .a4 .given .1) _ k
+    (not-false _ (c .before .before .before .before .before .before .if4 .left)) (g .result)
     (rowsOf (g .last .0) (g .last .1 .0) (g .last .1 .1 .0) (g .last .1 .1 .1 .0) (g .last .1 .1 .1 .1 .0)) (g .ensures)
 
 pub act-spec : {M : Type 1} → statement M

@@ -56,7 +56,8 @@ returns-4 c =
     let q : length (a .stored .durable .pending .records) ≡ mostPending = search (needs, length-mapped, s .1 .1 .1 .0) in
     let u : length (a .stored .durable .taken .last) ≡ mostActors = search (needs, length-mapped, s .1 .1 .1 .1 .0) in
     let w : a .timers .0 < 4294967296 = search (needs, b .good .0 .1 .1 .1 .0) in
-    let d = sym (c .before .before .before .before .before .before .durable-ok .ensures) ∙ not-false _ (c .before .before .before .before .before .if1 .left) in
+    let d = sym (c .before .before .before .before .before .before .durable-ok .ensures)
+    ∙ not-false _ (c .before .before .before .before .before .if1 .left) in
     let h = le-leb _ _ (c .before .before .before .if2 .left) in
     let e = sym (c .before .before .stored-ok .ensures) ∙ not-false _ (c .before .if3 .left) in
     tells (actorFine (b .args .actors) a) (c .is-quiet .result)

@@ -25,7 +25,9 @@ cast-rule-for : tie.Need-cast-rule-for
 cast-rule-for c = search needs
 
 rule-for-requires : tie.Need-rule-for-requires
-rule-for-requires c κs = let s = c .before .before .before .before .before in (s .pre .1, state-small (s .args .live .now) (s .args .pend .now) (s .pre .0 .live))
+rule-for-requires c κs =
+    let s = c .before .before .before .before .before in
+    (s .pre .1, state-small (s .args .live .now) (s .args .pend .now) (s .pre .0 .live))
 
 pass-by-requires : tie.Need-pass-by-requires
 pass-by-requires c κs = search needs
@@ -77,7 +79,8 @@ returns-2 c =
     λ count.
     heard-taken (a .kind) (a .e) (a .number) (a .payload) (a .used) (a .len) x (s .pre .0) (s .pre .2) (a .table .now) (a .rules) (s .pre .1) (f .result)
     (f .ensures (a .e .src)) (g .result) (rowsOf (g .last .0) (g .last .1 .0) (g .last .1 .1 .0) (g .last .1 .1 .1 .0) (g .last .1 .1 .1 .1 .0)) count
-    (omega (arith, c .before .before .before .before .before .before .before .before .before .before .before .if1 .left)) (n .result) (n .ensures .0) (g .ensures)
+    (omega (arith, c .before .before .before .before .before .before .before .before .before .before .before .if1 .left)) (n .result) (n .ensures .0)
+    (g .ensures)
 
 pub hear-spec : {M : Type 1} → statement M
 hear-spec =

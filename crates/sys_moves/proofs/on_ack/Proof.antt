@@ -13,7 +13,12 @@ is-done-requires : tie.Need-is-done-requires
 is-done-requires c κs = search needs
 
 returns : tie.Need-returns
-returns c = let s = (c .before .before .before .before) in let a = s .args in let x : Rows = rowsOf (a .c .now) (a .live .now) (a .pend .now) (a .kept .now) (a .stored .now) in ack-absent (a .kind) (a .e) (a .number) x (a .used) (a .len) (s .pre) ((c .before .before .on-deliver) .result) ((c .before .before .on-deliver) .last .0) ((c .before .before .on-deliver) .ensures) (sym ((c .before .is-done) .ensures) ∙ not-true _ ((c .if1) .taken))
+returns c =
+    let s = (c .before .before .before .before) in
+    let a = s .args in
+    let x : Rows = rowsOf (a .c .now) (a .live .now) (a .pend .now) (a .kept .now) (a .stored .now) in
+    ack-absent (a .kind) (a .e) (a .number) x (a .used) (a .len) (s .pre) ((c .before .before .on-deliver) .result) ((c .before .before .on-deliver) .last .0)
+    ((c .before .before .on-deliver) .ensures) (sym ((c .before .is-done) .ensures) ∙ not-true _ ((c .if1) .taken))
 
 settle-ack-requires : tie.Need-settle-ack-requires
 settle-ack-requires c κs = search needs
@@ -22,7 +27,18 @@ store-requires : tie.Need-store-requires
 store-requires c κs = search needs
 
 returns-2 : tie.Need-returns-2
-returns-2 c = let s = (c .before .before .before .before .before .before .before .before .before .before .before .before) in let a = s .args in let x : Rows = rowsOf (a .c .now) (a .live .now) (a .pend .now) (a .kept .now) (a .stored .now) in ack-done (a .kind) (a .e) (a .number) x (a .used) (a .len) (s .pre) ((c .before .before .before .before .before .before .before .before .before .before .on-deliver) .result) ((c .before .before .before .before .before .before .before .before .before .before .on-deliver) .last .0) ((c .before .before .before .before .before .before .before .before .before .before .on-deliver) .ensures) (sym ((c .before .before .before .before .before .before .before .before .before .is-done) .ensures) ∙ not-false _ ((c .before .before .before .before .before .before .before .before .if1) .left)) ((c .before .before .before .before .before .settle-ack) .last .0) ((c .before .before .before .before .before .settle-ack) .last .1 .0) ((c .before .before .before .before .before .settle-ack) .ensures) ((c .store) .last .1 .1 .0) ((c .store) .last .1 .1 .1 .0) ((c .store) .ensures)
+returns-2 c =
+    let s = (c .before .before .before .before .before .before .before .before .before .before .before .before) in
+    let a = s .args in
+    let x : Rows = rowsOf (a .c .now) (a .live .now) (a .pend .now) (a .kept .now) (a .stored .now) in
+    ack-done (a .kind) (a .e) (a .number) x (a .used) (a .len) (s .pre)
+    ((c .before .before .before .before .before .before .before .before .before .before .on-deliver) .result)
+    ((c .before .before .before .before .before .before .before .before .before .before .on-deliver) .last .0)
+    ((c .before .before .before .before .before .before .before .before .before .before .on-deliver) .ensures)
+    (sym ((c .before .before .before .before .before .before .before .before .before .is-done) .ensures)
+    ∙ not-false _ ((c .before .before .before .before .before .before .before .before .if1) .left))
+    ((c .before .before .before .before .before .settle-ack) .last .0) ((c .before .before .before .before .before .settle-ack) .last .1 .0)
+    ((c .before .before .before .before .before .settle-ack) .ensures) ((c .store) .last .1 .1 .0) ((c .store) .last .1 .1 .1 .0) ((c .store) .ensures)
 
 pub on-ack-spec : {M : Type 1} → statement M
 on-ack-spec =

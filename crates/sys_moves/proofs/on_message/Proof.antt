@@ -39,22 +39,88 @@ when-refused-requires : tie.Need-when-refused-requires
 when-refused-requires c κs = (c .before .before .before .before .before .before .before .before .before .pre) .0 .net
 
 returns : tie.Need-returns
-returns c = let s = (c .before .before .before .before .before .before .before .before .before .before) in let a = s .args in let os = orders (a .row .now) (a .e .src) (a .value) in let x : Rows = rowsOf (a .c .now) (a .live .now) (a .pend .now) (a .kept .now) (a .stored .now) in let h : getD (a .live .now) 0 0 ≤ 18446744073709551615 = (c .before .before .before .before .refusal) .ensures .1 in let e = (c .before .before .before .before .refusal) .ensures .0 ∙ ap (λ (k : ℕ). answerOf (refusalOf (getD (a .live .now) 0 0) (getD (a .live .now) 1 0) mostPending k)) (s .pre .1 .sends (a .e .src) (a .value)) in taken-refused (a .kind) (a .e) (a .number) os (a .state) (a .used) (a .len) x (s .pre .0) ((c .before .before .before .before .refusal) .result) e h (sym ((c .before .before .before .is-done) .ensures) ∙ not-true _ ((c .before .before .if1) .taken)) ((c .when-refused) .result) ((c .when-refused) .ensures .0) ((c .when-refused) .last .0) ((c .when-refused) .ensures .1)
+returns c =
+    let s = (c .before .before .before .before .before .before .before .before .before .before) in
+    let a = s .args in
+    let os = orders (a .row .now) (a .e .src) (a .value) in
+    let x : Rows = rowsOf (a .c .now) (a .live .now) (a .pend .now) (a .kept .now) (a .stored .now) in
+    let h : getD (a .live .now) 0 0 ≤ 18446744073709551615 = (c .before .before .before .before .refusal) .ensures .1 in
+    let e = (c .before .before .before .before .refusal) .ensures .0
+    ∙ ap (λ (k : ℕ). answerOf (refusalOf (getD (a .live .now) 0 0) (getD (a .live .now) 1 0) mostPending k)) (s .pre .1 .sends (a .e .src) (a .value)) in
+    taken-refused (a .kind) (a .e) (a .number) os (a .state) (a .used) (a .len) x (s .pre .0) ((c .before .before .before .before .refusal) .result) e h
+    (sym ((c .before .before .before .is-done) .ensures) ∙ not-true _ ((c .before .before .if1) .taken)) ((c .when-refused) .result)
+    ((c .when-refused) .ensures .0) ((c .when-refused) .last .0) ((c .when-refused) .ensures .1)
 
 deliver-row-requires : tie.Need-deliver-row-requires
-deliver-row-requires c κs = let s = (c .before .before .before .before .before .before .before .before .before) in let a = s .args in let os = orders (a .row .now) (a .e .src) (a .value) in let x : Rows = rowsOf (a .c .now) (a .live .now) (a .pend .now) (a .kept .now) (a .stored .now) in let h : getD (a .live .now) 0 0 ≤ 18446744073709551615 = (c .before .before .before .refusal) .ensures .1 in let e = (c .before .before .before .refusal) .ensures .0 ∙ ap (λ (k : ℕ). answerOf (refusalOf (getD (a .live .now) 0 0) (getD (a .live .now) 1 0) mostPending k)) (s .pre .1 .sends (a .e .src) (a .value)) in let g = enough (a .kind) (a .e) (a .number) os (a .state) (a .used) (a .len) x (s .pre .0) ((c .before .before .before .refusal) .result) e h (sym ((c .before .before .is-done) .ensures) ∙ not-false _ ((c .before .if1) .left)) in (s .pre .0 .net, s .pre .1, g .0, s .pre .0 .room)
+deliver-row-requires c κs =
+    let s = (c .before .before .before .before .before .before .before .before .before) in
+    let a = s .args in
+    let os = orders (a .row .now) (a .e .src) (a .value) in
+    let x : Rows = rowsOf (a .c .now) (a .live .now) (a .pend .now) (a .kept .now) (a .stored .now) in
+    let h : getD (a .live .now) 0 0 ≤ 18446744073709551615 = (c .before .before .before .refusal) .ensures .1 in
+    let e = (c .before .before .before .refusal) .ensures .0
+    ∙ ap (λ (k : ℕ). answerOf (refusalOf (getD (a .live .now) 0 0) (getD (a .live .now) 1 0) mostPending k)) (s .pre .1 .sends (a .e .src) (a .value)) in
+    let g = enough (a .kind) (a .e) (a .number) os (a .state) (a .used) (a .len) x (s .pre .0) ((c .before .before .before .refusal) .result) e h
+    (sym ((c .before .before .is-done) .ensures) ∙ not-false _ ((c .before .if1) .left)) in
+    (s .pre .0 .net, s .pre .1, g .0, s .pre .0 .room)
 
 is-done-requires-2 : tie.Need-is-done-requires-2
 is-done-requires-2 c κs = search needs
 
 returns-2 : tie.Need-returns-2
-returns-2 c = let s = (c .before .before .before .before .before .before .before .before .before .before .before .before) in let a = s .args in let os = orders (a .row .now) (a .e .src) (a .value) in let x : Rows = rowsOf (a .c .now) (a .live .now) (a .pend .now) (a .kept .now) (a .stored .now) in let h : getD (a .live .now) 0 0 ≤ 18446744073709551615 = (c .before .before .before .before .before .before .refusal) .ensures .1 in let e = (c .before .before .before .before .before .before .refusal) .ensures .0 ∙ ap (λ (k : ℕ). answerOf (refusalOf (getD (a .live .now) 0 0) (getD (a .live .now) 1 0) mostPending k)) (s .pre .1 .sends (a .e .src) (a .value)) in let g = enough (a .kind) (a .e) (a .number) os (a .state) (a .used) (a .len) x (s .pre .0) ((c .before .before .before .before .before .before .refusal) .result) e h (sym ((c .before .before .before .before .before .is-done) .ensures) ∙ not-false _ ((c .before .before .before .before .if1) .left)) in taken-full (a .kind) (a .e) (a .number) os (a .state) (a .used) (a .len) x (s .pre .0) (g .0) (g .1) (row-four (a .row .now) (a .e .src) (a .value) (s .pre .1)) ((c .before .before .deliver-row) .result) ((c .before .before .deliver-row) .last .0) ((c .before .before .deliver-row) .ensures) (sym ((c .before .is-done2) .ensures) ∙ not-true _ ((c .if2) .taken))
+returns-2 c =
+    let s = (c .before .before .before .before .before .before .before .before .before .before .before .before) in
+    let a = s .args in
+    let os = orders (a .row .now) (a .e .src) (a .value) in
+    let x : Rows = rowsOf (a .c .now) (a .live .now) (a .pend .now) (a .kept .now) (a .stored .now) in
+    let h : getD (a .live .now) 0 0 ≤ 18446744073709551615 = (c .before .before .before .before .before .before .refusal) .ensures .1 in
+    let e = (c .before .before .before .before .before .before .refusal) .ensures .0
+    ∙ ap (λ (k : ℕ). answerOf (refusalOf (getD (a .live .now) 0 0) (getD (a .live .now) 1 0) mostPending k)) (s .pre .1 .sends (a .e .src) (a .value)) in
+    let g = enough (a .kind) (a .e) (a .number) os (a .state) (a .used) (a .len) x (s .pre .0)
+    ((c .before .before .before .before .before .before .refusal) .result) e h
+    (sym ((c .before .before .before .before .before .is-done) .ensures) ∙ not-false _ ((c .before .before .before .before .if1) .left)) in
+    taken-full (a .kind) (a .e) (a .number) os (a .state) (a .used) (a .len) x (s .pre .0) (g .0) (g .1)
+    (row-four (a .row .now) (a .e .src) (a .value) (s .pre .1)) ((c .before .before .deliver-row) .result) ((c .before .before .deliver-row) .last .0)
+    ((c .before .before .deliver-row) .ensures) (sym ((c .before .is-done2) .ensures) ∙ not-true _ ((c .if2) .taken))
 
 take-in-requires : tie.Need-take-in-requires
-take-in-requires c κs = let s = (c .before .before .before .before .before .before .before .before .before .before .before .before .before .before .before .before .before) in let a = s .args in let os = orders (a .row .now) (a .e .src) (a .value) in let x : Rows = rowsOf (a .c .now) (a .live .now) (a .pend .now) (a .kept .now) (a .stored .now) in let h : getD (a .live .now) 0 0 ≤ 18446744073709551615 = (c .before .before .before .before .before .before .before .before .before .before .before .refusal) .ensures .1 in let e = (c .before .before .before .before .before .before .before .before .before .before .before .refusal) .ensures .0 ∙ ap (λ (k : ℕ). answerOf (refusalOf (getD (a .live .now) 0 0) (getD (a .live .now) 1 0) mostPending k)) (s .pre .1 .sends (a .e .src) (a .value)) in let g = enough (a .kind) (a .e) (a .number) os (a .state) (a .used) (a .len) x (s .pre .0) ((c .before .before .before .before .before .before .before .before .before .before .before .refusal) .result) e h (sym ((c .before .before .before .before .before .before .before .before .before .before .is-done) .ensures) ∙ not-false _ ((c .before .before .before .before .before .before .before .before .before .if1) .left)) in (s .pre .1, s .pre .0 .live, s .pre .2, s .pre .3, g .1, g .0, s .pre .0 .kept .places)
+take-in-requires c κs =
+    let s = (c .before .before .before .before .before .before .before .before .before .before .before .before .before .before .before .before .before) in
+    let a = s .args in
+    let os = orders (a .row .now) (a .e .src) (a .value) in
+    let x : Rows = rowsOf (a .c .now) (a .live .now) (a .pend .now) (a .kept .now) (a .stored .now) in
+    let h : getD (a .live .now) 0 0 ≤ 18446744073709551615 =
+    (c .before .before .before .before .before .before .before .before .before .before .before .refusal) .ensures .1 in
+    let e = (c .before .before .before .before .before .before .before .before .before .before .before .refusal) .ensures .0
+    ∙ ap (λ (k : ℕ). answerOf (refusalOf (getD (a .live .now) 0 0) (getD (a .live .now) 1 0) mostPending k)) (s .pre .1 .sends (a .e .src) (a .value)) in
+    let g = enough (a .kind) (a .e) (a .number) os (a .state) (a .used) (a .len) x (s .pre .0)
+    ((c .before .before .before .before .before .before .before .before .before .before .before .refusal) .result) e h
+    (sym ((c .before .before .before .before .before .before .before .before .before .before .is-done) .ensures)
+    ∙ not-false _ ((c .before .before .before .before .before .before .before .before .before .if1) .left)) in
+    (s .pre .1, s .pre .0 .live, s .pre .2, s .pre .3, g .1, g .0, s .pre .0 .kept .places)
 
 returns-3 : tie.Need-returns-3
-returns-3 c = let s = (c .before .before .before .before .before .before .before .before .before .before .before .before .before .before .before .before .before .before) in let a = s .args in let os = orders (a .row .now) (a .e .src) (a .value) in let x : Rows = rowsOf (a .c .now) (a .live .now) (a .pend .now) (a .kept .now) (a .stored .now) in let h : getD (a .live .now) 0 0 ≤ 18446744073709551615 = (c .before .before .before .before .before .before .before .before .before .before .before .before .refusal) .ensures .1 in let e = (c .before .before .before .before .before .before .before .before .before .before .before .before .refusal) .ensures .0 ∙ ap (λ (k : ℕ). answerOf (refusalOf (getD (a .live .now) 0 0) (getD (a .live .now) 1 0) mostPending k)) (s .pre .1 .sends (a .e .src) (a .value)) in let g = enough (a .kind) (a .e) (a .number) os (a .state) (a .used) (a .len) x (s .pre .0) ((c .before .before .before .before .before .before .before .before .before .before .before .before .refusal) .result) e h (sym ((c .before .before .before .before .before .before .before .before .before .before .before .is-done) .ensures) ∙ not-false _ ((c .before .before .before .before .before .before .before .before .before .before .if1) .left)) in taken-done (a .kind) (a .e) (a .number) os (a .state) (a .used) (a .len) x (s .pre .0) (g .0) (g .1) (row-four (a .row .now) (a .e .src) (a .value) (s .pre .1)) ((c .before .before .before .before .before .before .before .before .deliver-row) .result) ((c .before .before .before .before .before .before .before .before .deliver-row) .last .0) ((c .before .before .before .before .before .before .before .before .deliver-row) .ensures) (sym ((c .before .before .before .before .before .before .before .is-done2) .ensures) ∙ not-false _ ((c .before .before .before .before .before .before .if2) .left)) ((c .take-in) .last .0) ((c .take-in) .last .1 .0) ((c .take-in) .ensures .0) ((c .take-in) .last .1 .1 .0) ((c .take-in) .last .1 .1 .1 .0) ((c .take-in) .ensures .1)
+returns-3 c =
+    let s = (c .before .before .before .before .before .before .before .before .before .before .before .before .before .before .before .before .before .before)
+    in
+    let a = s .args in
+    let os = orders (a .row .now) (a .e .src) (a .value) in
+    let x : Rows = rowsOf (a .c .now) (a .live .now) (a .pend .now) (a .kept .now) (a .stored .now) in
+    let h : getD (a .live .now) 0 0 ≤ 18446744073709551615 =
+    (c .before .before .before .before .before .before .before .before .before .before .before .before .refusal) .ensures .1 in
+    let e = (c .before .before .before .before .before .before .before .before .before .before .before .before .refusal) .ensures .0
+    ∙ ap (λ (k : ℕ). answerOf (refusalOf (getD (a .live .now) 0 0) (getD (a .live .now) 1 0) mostPending k)) (s .pre .1 .sends (a .e .src) (a .value)) in
+    let g = enough (a .kind) (a .e) (a .number) os (a .state) (a .used) (a .len) x (s .pre .0)
+    ((c .before .before .before .before .before .before .before .before .before .before .before .before .refusal) .result) e h
+    (sym ((c .before .before .before .before .before .before .before .before .before .before .before .is-done) .ensures)
+    ∙ not-false _ ((c .before .before .before .before .before .before .before .before .before .before .if1) .left)) in
+    taken-done (a .kind) (a .e) (a .number) os (a .state) (a .used) (a .len) x (s .pre .0) (g .0) (g .1)
+    (row-four (a .row .now) (a .e .src) (a .value) (s .pre .1)) ((c .before .before .before .before .before .before .before .before .deliver-row) .result)
+    ((c .before .before .before .before .before .before .before .before .deliver-row) .last .0)
+    ((c .before .before .before .before .before .before .before .before .deliver-row) .ensures)
+    (sym ((c .before .before .before .before .before .before .before .is-done2) .ensures)
+    ∙ not-false _ ((c .before .before .before .before .before .before .if2) .left)) ((c .take-in) .last .0) ((c .take-in) .last .1 .0)
+    ((c .take-in) .ensures .0) ((c .take-in) .last .1 .1 .0) ((c .take-in) .last .1 .1 .1 .0) ((c .take-in) .ensures .1)
 
 pub on-message-spec : {M : Type 1} → statement M
 on-message-spec =

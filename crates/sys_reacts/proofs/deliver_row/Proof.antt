@@ -18,7 +18,14 @@ shared-slice-read-n : tie.Need-shared-slice-read-n
 shared-slice-read-n c = let s = (c .before .before) in let z = s .pre .1 .room in search needs
 
 add-roomy : tie.Need-add-roomy
-add-roomy c = let s = (c .before .before) in let a = s .args in let os = orders (a .row .now) (a .e .src) (a .value) in let cmds = take (a .limit) (frontOf (a .e .src) (Acked (a .number)) ++ asked (a .next) os) in let z = row-sends (a .row .now) (a .e .src) (a .value) (s .pre .1) in let y = s .pre .1 .sends (a .e .src) (a .value) in search needs
+add-roomy c =
+    let s = (c .before .before) in
+    let a = s .args in
+    let os = orders (a .row .now) (a .e .src) (a .value) in
+    let cmds = take (a .limit) (frontOf (a .e .src) (Acked (a .number)) ++ asked (a .next) os) in
+    let z = row-sends (a .row .now) (a .e .src) (a .value) (s .pre .1) in
+    let y = s .pre .1 .sends (a .e .src) (a .value) in
+    search needs
 
 roomy-requires : tie.Need-roomy-requires
 roomy-requires c κs = let s = (c .before .before) in let z = s .pre .0 .laid .fit in let y = s .pre .3 in search needs
@@ -27,7 +34,16 @@ take-row-requires : tie.Need-take-row-requires
 take-row-requires c κs = search needs
 
 returns : tie.Need-returns
-returns c = let s = (c .before .before .before .before .before .before) in let a = s .args in let os = orders (a .row .now) (a .e .src) (a .value) in let cmds = take (a .limit) (frontOf (a .e .src) (Acked (a .number)) ++ asked (a .next) os) in let f = few-sent (a .e .src) (Acked (a .number)) (a .next) (a .limit) (getD (a .row .now) 14 0) os (s .pre .1 .sends (a .e .src) (a .value)) in let r = (c .before .before .before .roomy) .ensures ((c .before .before .if1) .taken) in let y = s .pre .3 in back-roomy (a .kind) (a .e) cmds (a .c .now) (a .used) (a .len) (a .timers) (s .pre .0) ((c .take-row) .result) ((c .take-row) .last .0) ((c .take-row) .ensures) (omega (arith, r .0)) (omega (arith, r .1))
+returns c =
+    let s = (c .before .before .before .before .before .before) in
+    let a = s .args in
+    let os = orders (a .row .now) (a .e .src) (a .value) in
+    let cmds = take (a .limit) (frontOf (a .e .src) (Acked (a .number)) ++ asked (a .next) os) in
+    let f = few-sent (a .e .src) (Acked (a .number)) (a .next) (a .limit) (getD (a .row .now) 14 0) os (s .pre .1 .sends (a .e .src) (a .value)) in
+    let r = (c .before .before .before .roomy) .ensures ((c .before .before .if1) .taken) in
+    let y = s .pre .3 in
+    back-roomy (a .kind) (a .e) cmds (a .c .now) (a .used) (a .len) (a .timers) (s .pre .0) ((c .take-row) .result) ((c .take-row) .last .0)
+    ((c .take-row) .ensures) (omega (arith, r .0)) (omega (arith, r .1))
 
 take-row-requires-2 : tie.Need-take-row-requires-2
 take-row-requires-2 c κs = search needs
@@ -36,10 +52,23 @@ is-done-requires : tie.Need-is-done-requires
 is-done-requires c κs = search needs
 
 returns-2 : tie.Need-returns-2
-returns-2 c = let s = (c .before .before .before .before .before .before .before .before .before) in let a = s .args in let os = orders (a .row .now) (a .e .src) (a .value) in let cmds = take (a .limit) (frontOf (a .e .src) (Acked (a .number)) ++ asked (a .next) os) in back-done (a .kind) (a .e) cmds (a .c .now) (a .used) (a .len) (a .timers) (s .pre .0) ((c .before .before .take-row2) .result) ((c .before .before .take-row2) .last .0) ((c .before .before .take-row2) .ensures) (sym ((c .before .is-done) .ensures) ∙ (c .if2) .taken)
+returns-2 c =
+    let s = (c .before .before .before .before .before .before .before .before .before) in
+    let a = s .args in
+    let os = orders (a .row .now) (a .e .src) (a .value) in
+    let cmds = take (a .limit) (frontOf (a .e .src) (Acked (a .number)) ++ asked (a .next) os) in
+    back-done (a .kind) (a .e) cmds (a .c .now) (a .used) (a .len) (a .timers) (s .pre .0) ((c .before .before .take-row2) .result)
+    ((c .before .before .take-row2) .last .0) ((c .before .before .take-row2) .ensures) (sym ((c .before .is-done) .ensures) ∙ (c .if2) .taken)
 
 returns-3 : tie.Need-returns-3
-returns-3 c = let s = (c .before .before .before .before .before .before .before .before .before) in let a = s .args in let os = orders (a .row .now) (a .e .src) (a .value) in let cmds = take (a .limit) (frontOf (a .e .src) (Acked (a .number)) ++ asked (a .next) os) in back-again (a .kind) (a .e) cmds (a .c .now) (a .used) (a .len) (a .timers) (s .pre .0) ((c .before .before .take-row2) .result) ((c .before .before .take-row2) .last .0) ((c .before .before .take-row2) .ensures) (sym ((c .before .is-done) .ensures) ∙ (c .if2) .left) (a .next) (a .limit)
+returns-3 c =
+    let s = (c .before .before .before .before .before .before .before .before .before) in
+    let a = s .args in
+    let os = orders (a .row .now) (a .e .src) (a .value) in
+    let cmds = take (a .limit) (frontOf (a .e .src) (Acked (a .number)) ++ asked (a .next) os) in
+    back-again (a .kind) (a .e) cmds (a .c .now) (a .used) (a .len) (a .timers) (s .pre .0) ((c .before .before .take-row2) .result)
+    ((c .before .before .take-row2) .last .0) ((c .before .before .take-row2) .ensures) (sym ((c .before .is-done) .ensures) ∙ (c .if2) .left) (a .next)
+    (a .limit)
 
 pub deliver-row-spec : {M : Type 1} → statement M
 deliver-row-spec =

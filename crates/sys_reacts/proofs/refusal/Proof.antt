@@ -14,13 +14,19 @@ returns : tie.Need-returns
 returns c = let s = (c .before .before) in let a = s .args in (both-fit (a .next) (a .pending) (a .room) (a .sends) (omega arith) (omega arith), search needs)
 
 returns-2 : tie.Need-returns-2
-returns-2 c = let s = (c .before .before) in let a = s .args in (numbers-out (a .next) (a .pending) (a .room) (a .sends) (omega arith) (omega arith), search needs)
+returns-2 c =
+    let s = (c .before .before) in
+    let a = s .args in
+    (numbers-out (a .next) (a .pending) (a .room) (a .sends) (omega arith) (omega arith), search needs)
 
 returns-3 : tie.Need-returns-3
 returns-3 c = let s = (c .before .before) in let a = s .args in (both-fit (a .next) (a .pending) (a .room) (a .sends) (omega arith) (omega arith), search needs)
 
 returns-4 : tie.Need-returns-4
-returns-4 c = let s = (c .before .before) in let a = s .args in (places-out (a .next) (a .pending) (a .room) (a .sends) (omega arith) (omega arith), search needs)
+returns-4 c =
+    let s = (c .before .before) in
+    let a = s .args in
+    (places-out (a .next) (a .pending) (a .room) (a .sends) (omega arith) (omega arith), search needs)
 
 pub refusal-spec : {M : Type 1} → statement M
 refusal-spec = tie.close (tie.spec sub-numbers sub-places returns returns-2 returns-3 returns-4)

@@ -74,13 +74,15 @@ index-1-act-4 c =
 mul-act-5 : tie.Need-mul-act-5
 mul-act-5 c = 
     let s = c .before .before .before .before .before .before .before in
-    let h = below (s .pre) (s .args .a) (c .before .before .before .before .before .before .seat .result) (c .before .before .before .before .before .before .seat .ensures) in
+    let h = below (s .pre) (s .args .a) (c .before .before .before .before .before .before .seat .result)
+    (c .before .before .before .before .before .before .seat .ensures) in
     search (needs, h)
 
 index-1-act-5 : tie.Need-index-1-act-5
 index-1-act-5 c = 
     let s = c .before .before .before .before .before .before .before in
-    let h = below (s .pre) (s .args .a) (c .before .before .before .before .before .before .seat .result) (c .before .before .before .before .before .before .seat .ensures) in
+    let h = below (s .pre) (s .args .a) (c .before .before .before .before .before .before .seat .result)
+    (c .before .before .before .before .before .before .seat .ensures) in
     h
 
 act-requires : tie.Need-act-requires

@@ -73,7 +73,8 @@ returns c =
     let b = c .before .before .before .before .before .read-back in
     touches (s .args .count) (s .args .n) (s .args .b) (s .args .t) (s .pre .net) (w .cells-of .result) (w .cells-of .ensures)
     (x .0) (x .1 .0) (x .1 .1 .0) (x .1 .1 .1 .0) (l .lay-out .ensures) (n .result) (n .ensures) (s .args .a)
-    (rulesIn (t .result) (s .args .t .used)) (t .ensures .0) (d .act .result) after (d .act .ensures) _ refl (b .ensures ∙ rw (z .ensures)) (c .actor-of .ensures)
+    (rulesIn (t .result) (s .args .t .used)) (t .ensures .0) (d .act .result) after (d .act .ensures) _ refl (b .ensures ∙ rw (z .ensures))
+    (c .actor-of .ensures)
 
 pub touch-spec : {M : Type 1} → statement M
 touch-spec =

@@ -27,7 +27,8 @@ module _ (list rest : List ℕ) (at size : ℕ) (r : rest ≡ drop at list) (s :
       let d = drop-drop size at list in
       cc
 
-  ended : (t : Tally) {u : Tally} → at < length list → size ≡ 0 → u ≡ counted t false → tallied list ≡ walk 0 (drop at list) t → u ≡ tallied list
+  ended : (t : Tally) {u : Tally} → at < length list → size ≡ 0 → u ≡ counted t false → tallied list ≡ walk 0 (drop at list) t → u
+      ≡ tallied list
   ended t {u} h z q e =
       let k : 0 < length rest = omega (arith, ap length r, length-drop at list) in
       let w = walk-cut rest t k (sym s ∙ z) in
