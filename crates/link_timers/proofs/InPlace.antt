@@ -155,7 +155,7 @@ module _ {M : Type 1} (𝓤 : URA M) (H : Heap 𝓤) (A : Atoms 𝓤) (W : Given
         calls-at ! fm (Core 𝓤 H A of) known to-core
         (and-then ! (load ! (from ! (stop !)) (look ! 5 refl)) (and-then ! (load ! (from ! (stop !)) (look ! 9 refl)) (no-more !))) (λ v.
         use1 W (later (some (λ (r : Change). (‵ ftrue ⊛ ‵ (TC.the-row .own r (v ∷ []))) ⊛ raw
-            (ensured 𝓤 H A core.ended (byValue 𝓤 H A of) tt (h, (n, tt)) tt
+        (ensured 𝓤 H A core.ended (byValue 𝓤 H A of) tt (h, (n, tt)) tt
         r)))) (id⊢ 𝓤 _) $ await ! tt $ pick ! (λ r.
         split ! $ move ! (1 ∷ []) $ use1 W (raw (fact 𝓤 (r ≡ of h n))) (core-of 𝓤 H A of h n r) $ heard ! (r ≡ of h n) (λ e. split ! $ drop ! $
         peeks ! TC.the-row (Is TC.the-row) (shows 𝓤 H A TC.the-row) r (v ∷ []) (λ is. drop ! $

@@ -71,7 +71,7 @@ unfolding deliverable opens runs fronts choose
 shown-is Ordered [] h = shown-runs Ordered [] [] 0 refl
 shown-is Ordered (x ∷ l) h =
     shown-runs Ordered (x ∷ l) (x ∷ l) 0 refl ∙ ap (λ (r : List Envelope). x .envelope ∷ r) (runs-breaks 1 x l (omega arith))
-        ∙ sym (fronts-are x l h)
+    ∙ sym (fronts-are x l h)
 shown-is UnorderedDuplicating l h = shown-runs UnorderedDuplicating l l 0 refl ∙ runs-all UnorderedDuplicating (λ i p x. refl) 0 _ l
 shown-is UnorderedNonDuplicating l h = shown-runs UnorderedNonDuplicating l l 0 refl ∙ runs-all UnorderedNonDuplicating (λ i p x. refl) 0 _ l
 

@@ -51,7 +51,7 @@ fn same_bytes(a: &[u8], b: &[u8]) -> bool
 pub fn from_name(name: &[u8]) -> Named
     ensures { λ r. ⌜ r ≡ namedOf (kindNamed (now (name .entry))) ⌝ }
     ensures says { λ r. ⌜ (namedNumber r ≡ outcomeNumber (kindNamed (now (name .entry))))
-            × (namedKinds r ≡ outcomeKinds (kindNamed (now (name .entry)))) ⌝ }
+        × (namedKinds r ≡ outcomeKinds (kindNamed (now (name .entry)))) ⌝ }
 {
     if same_bytes(name, &ORDERED) {
         return Named::Known(Kind::Ordered);

@@ -98,7 +98,18 @@ fn play(
         match x {
             ActionRead::Act(a, after) => {
                 let t = act_in(
-                    cells, lives, pends, kepts, storeds, tables, rules, kind, used, len, count, a,
+                    cells,
+                    lives,
+                    pends,
+                    kepts,
+                    storeds,
+                    tables,
+                    rules,
+                    kind,
+                    used,
+                    len,
+                    count,
+                    a,
                 );
                 used = t.used;
                 len = t.len;
@@ -143,13 +154,35 @@ pub fn run(
     let mut pends = [[[0u64; RECORD]; MOST_PENDING]; MOST_ACTORS];
     let mut kepts = [[0u64; ROW]; MOST_ACTORS];
     let mut storeds = [[[0u64; RECORD]; MOST_PENDING]; MOST_ACTORS];
-    lay_out_actors(actors, count, &mut lives, &mut pends, &mut kepts, &mut storeds);
+    lay_out_actors(
+        actors,
+        count,
+        &mut lives,
+        &mut pends,
+        &mut kepts,
+        &mut storeds,
+    );
     let ts = s.tables;
     let mut tables = [[[0u64; 16]; MOST_RULES]; MOST_ACTORS];
     let mut rules = [0usize; MOST_ACTORS];
     lay_out_tables(ts, count, &mut tables, &mut rules);
     play(
-        script, from, f, out, place, write, &mut cells, &mut lives, &mut pends, &mut kepts,
-        &mut storeds, &tables, &rules, kind, used, len, count,
+        script,
+        from,
+        f,
+        out,
+        place,
+        write,
+        &mut cells,
+        &mut lives,
+        &mut pends,
+        &mut kepts,
+        &mut storeds,
+        &tables,
+        &rules,
+        kind,
+        used,
+        len,
+        count,
     )
 }

@@ -171,7 +171,7 @@ pub data Coming (f : Format) (s : List ℕ) (at : ℕ) (ys : List ℕ) (q : ℕ)
   last : (r : ℕ) → one (actionForm f) (drop at s) at ≡ read end (drop r s) r → Coming f s at ys q []
   next
       : {a : Action} (r : ℕ) {l : List Action} → one (actionForm f) (drop at s) at ≡ read (item a) (drop r s) r → actionsFrom f (drop r s) r
-          ≡ read l ys q
+      ≡ read l ys q
       → Coming f s at ys q (a ∷ l)
 
 closed-all : (zs : List ℕ) (r : ℕ) {l : List Action} {ys : List ℕ} {q : ℕ} → closed zs r ≡ read l ys q → [] ≡ l

@@ -41,7 +41,7 @@ module _ (known : List Format) (s : List ℕ) where
   -- ---- the layout, by the opening
   pub opening-good
       : {o : Opening} {q : ℕ} → openingFrom known s 0 ≡ read o (drop q s) q → layoutOf (scriptFrom known s 0)
-          ≡ layoutOf (actionsFrom (formatIn o) (drop q s) q)
+      ≡ layoutOf (actionsFrom (formatIn o) (drop q s) q)
   unfolding scriptFrom onward
   opening-good {o} {q} e = ap (λ (m : Reading Opening). layoutOf (onward m after)) e ∙ layout-behind o (actionsFrom (formatIn o) (drop q s) q)
 

@@ -80,7 +80,7 @@ pub record Told {A T : Type 0} (out : Reading A → T) (place : T → ℕ) (f : 
 
 module _
     {A T : Type 0} {out : Reading A → T} {good : T → Bool} {place : T → ℕ} (k : Telling out good place) (f : Reader A) (s : List ℕ)
-        (at : ℕ) {t : T} where
+    (at : ℕ) {t : T} where
   told-by : (m : Reading A) → f (drop at s) at ≡ m → t ≡ out m → Kept f → good t ≡ true → Told out place f s at t
   told-by (read a ys p) h e kept g =
       let q : p ≡ place t = sym (ap place e ∙ k .yes a ys p .1) in
@@ -167,7 +167,7 @@ module _ (s : List ℕ) (at : ℕ) where
 
   pub envelope-found
       : (f : Form Envelope) {x : Envelope} {q : ℕ} → envelope.Found x q ≡ envelopeRead (one f (drop at s) at) → one f (drop at s) at
-          ≡ read x (drop q s) q
+      ≡ read x (drop q s) q
   envelope-found f {x} {q} e =
       let r = told-found envelope-tells (one f) s at e (kept-one f) refl in
       let w : envelope.Found x q ≡ envelope.Found (r .value) q = r .told in

@@ -258,7 +258,7 @@ module _ (xs : List ℕ) where
 
       pub ack-at
           : {n : ℕ} → 1 ≡ fieldAt xs at (f .tag) → n ≡ fieldAt xs b (f .number) → follow xs (messageForm f) at
-              ≡ reached (message.Ack (record { 0 = n })) c
+          ≡ reached (message.Ack (record { 0 = n })) c
       unfolding messageForm messageKinds
       ack-at {n} t q =
           let g : at + f .tag + f .number ≡ c = omega (arith, z, y) in
@@ -284,8 +284,11 @@ module _ (xs : List ℕ) where
       pub no-envelope : follow xs (messageForm f) c ≡ stuck → follow xs (envelopeForm f) at ≡ stuck
       unfolding envelopeForm
       no-envelope h =
-          then-stuck xs (at + 8 + 8) (messageForm f) (λ m. record { src = record { 0 = fieldAt xs at 8 }; dst = record { 0 = fieldAt xs (at + 8) 8 };
-              msg = m })
+          then-stuck xs (at + 8 + 8) (messageForm f) (λ m. record {
+            src = record { 0 = fieldAt xs at 8 };
+            dst = record { 0 = fieldAt xs (at + 8) 8 };
+            msg = m;
+          })
           (ap (follow xs (messageForm f)) behind ∙ h)
 
   -- ---- a rule
@@ -401,7 +404,7 @@ module _ (xs : List ℕ) where
       unfolding actionKinds
       timeout-kind {i} {t} e g h =
           kind-at p within ∙ ap (λ (j : ℕ). follow xs (getD (actionKinds f) j refuse) 3) e
-              ∙ fed xs (getD (actionKinds f) 3 refuse) 3 (i ∷ t ∷ []) (g, (h, tt))
+          ∙ fed xs (getD (actionKinds f) 3 refuse) 3 (i ∷ t ∷ []) (g, (h, tt))
 
       pub crash-kind : {i : ℕ} → k ≡ 4 → i ≡ fieldAt xs 3 8 → follow xs (actionForm f) 0 ≡ reached (item (action.Crash (record { 0 = i }))) 11
       unfolding actionKinds

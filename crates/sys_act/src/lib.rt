@@ -121,7 +121,7 @@ pub fn act(
     a: Action,
 ) -> Sent
     requires { ⌜ Fine kind used len (rowsOf (now c) (now live) (now pend) (now kept) (now stored)) × TableLaid (now table) rules
-            × (count ≤ mostActors) ⌝ }
+        × (count ≤ mostActors) ⌝ }
     ensures { λ r. ⌜ Stepped count a (seatOf count a) (rulesIn (now (table .entry)) rules) kind used len
         (rowsOf (now (c .entry)) (now (live .entry)) (now (pend .entry)) (now (kept .entry)) (now (stored .entry)))
         r (rowsOf (now (c .exit)) (now (live .exit)) (now (pend .exit)) (now (kept .exit)) (now (stored .exit))) ⌝ }
@@ -134,7 +134,18 @@ pub fn act(
                 return answered(unheard(count, e), used, len);
             }
             sys_deliver::deliver(
-                c, live, pend, kept, stored, table, rules, kind, used, len, count, e,
+                c,
+                live,
+                pend,
+                kept,
+                stored,
+                table,
+                rules,
+                kind,
+                used,
+                len,
+                count,
+                e,
             )
         }
         Action::Drop(e) => drop(c, kind, used, len, count, e),
@@ -143,7 +154,19 @@ pub fn act(
                 return answered(Answer::OutOfRange, used, len);
             }
             sys_timeout::timeout(
-                c, live, pend, kept, stored, table, rules, kind, used, len, count, j, timer,
+                c,
+                live,
+                pend,
+                kept,
+                stored,
+                table,
+                rules,
+                kind,
+                used,
+                len,
+                count,
+                j,
+                timer,
             )
         }
         Action::Crash(_) => {
@@ -158,7 +181,18 @@ pub fn act(
                 return answered(Answer::OutOfRange, used, len);
             }
             sys_wake::recover(
-                c, live, pend, kept, stored, table, rules, kind, used, len, count, j,
+                c,
+                live,
+                pend,
+                kept,
+                stored,
+                table,
+                rules,
+                kind,
+                used,
+                len,
+                count,
+                j,
             )
         }
     }

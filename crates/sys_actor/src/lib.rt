@@ -1,11 +1,11 @@
 // One actor: its crashed mark, its timers, its link, and what it has stored. Its table stands apart, since no step changes it.
 use link_durable::Durable;
+use link_durable::Link;
 use link_durable::Pendings;
 use link_durable::Stored;
 use link_durable::Taken;
 use link_durable::durable_ok;
 use link_durable::stored_ok;
-use link_durable::Link;
 use link_timers::Timers;
 use types::Id;
 use types::LAST_STATE;

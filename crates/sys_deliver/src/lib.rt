@@ -102,7 +102,7 @@ fn hear(
     payload: Payload,
 ) -> Sent
     requires { ⌜ Fine kind used len (rowsOf (now c) (now live) (now pend) (now kept) (now stored)) × TableLaid (now table) rules
-            × (e .src .0 < mostActors) ⌝ }
+        × (e .src .0 < mostActors) ⌝ }
     ensures { λ r. ⌜ ((count : ℕ) → Ended (e .dst) count (rulesIn (now (table .entry)) rules) (handedTo kind e (message.Deliver number payload) used
         (rowsOf (now (c .entry)) (now (live .entry)) (now (pend .entry)) (now (kept .entry)) (now (stored .entry))) (rulesIn (now (table .entry)) rules))
         (lastAfter kind e) kind used len
@@ -118,7 +118,19 @@ fn hear(
     }
     let next = state_after(&table[at], state);
     on_message(
-        c, live, pend, kept, stored, &table[at], kind, used, len, e, number, payload.0, next,
+        c,
+        live,
+        pend,
+        kept,
+        stored,
+        &table[at],
+        kind,
+        used,
+        len,
+        e,
+        number,
+        payload.0,
+        next,
     )
 }
 
@@ -138,7 +150,7 @@ pub fn deliver(
     e: Envelope,
 ) -> Sent
     requires { ⌜ Fine kind used len (rowsOf (now c) (now live) (now pend) (now kept) (now stored)) × TableLaid (now table) rules
-            × (count ≤ mostActors) ⌝ }
+        × (count ≤ mostActors) ⌝ }
     ensures { λ r. ⌜ Stepped count (action.Deliver e) (e .dst) (rulesIn (now (table .entry)) rules) kind used len
         (rowsOf (now (c .entry)) (now (live .entry)) (now (pend .entry)) (now (kept .entry)) (now (stored .entry)))
         r (rowsOf (now (c .exit)) (now (live .exit)) (now (pend .exit)) (now (kept .exit)) (now (stored .exit))) ⌝ }
@@ -162,7 +174,19 @@ pub fn deliver(
     match m {
         Message::Ack(n) => on_ack(c, live, pend, kept, stored, kind, used, len, e, n),
         Message::Deliver(n, p) => hear(
-            c, live, pend, kept, stored, table, rules, kind, used, len, e, n, p,
+            c,
+            live,
+            pend,
+            kept,
+            stored,
+            table,
+            rules,
+            kind,
+            used,
+            len,
+            e,
+            n,
+            p,
         ),
     }
 }

@@ -70,8 +70,8 @@ module _ (kind : Kind) (me : Id) (cmds : List Command) (cs₀ : List (List ℕ))
         runs = λ h. absurd (not-both (isDone (r .answer)) h f);
         stops =
             λ h hall last a. on .goal hall last a ∙ ap (λ (o : List InnerCommand). runCommands (roomOf cs₀) me (take k (asked m o))
-                (sysIn me hall kind last cs u w a)) split ∙ ap
-                (λ (c : Room). runCommands c me (take k (asked m (x ∷ os))) (sysIn me hall kind last cs u w a)) (sym rooms) ∙ went .stops h hall last a os;
+            (sysIn me hall kind last cs u w a)) split ∙ ap
+            (λ (c : Room). runCommands c me (take k (asked m (x ∷ os))) (sysIn me hall kind last cs u w a)) (sym rooms) ∙ went .stops h hall last a os;
       }
 
       pub along-step : isDone (r .answer) ≡ true → Along cs' (r .used) (r .len) (r .timers) (r .next) (r .left) os
@@ -81,7 +81,7 @@ module _ (kind : Kind) (me : Id) (cmds : List Command) (cs₀ : List (List ℕ))
         number = let z = on .number in let s = ap sends split in let y = sends-cons x os in let v = went .number t in omega arith;
         goal = λ hall last a.
             on .goal hall last a ∙ ap (λ (o : List InnerCommand). runCommands (roomOf cs₀) me (take k (asked m o))
-                (sysIn me hall kind last cs u w a)) split
+            (sysIn me hall kind last cs u w a)) split
             ∙ ap (λ (c : Room). runCommands c me (take k (asked m (x ∷ os))) (sysIn me hall kind last cs u w a)) (sym rooms)
             ∙ went .onward t hall last a os ∙ ap (λ (c : Room). runCommands c me (take (r .left) (asked (r .next) os))
             (sysIn me hall kind last cs' (r .used) (r .timers) a)) rooms;

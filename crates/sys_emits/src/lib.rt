@@ -1,9 +1,9 @@
 // What a rule's commands ask of the network and the timers, run in place, at most so many of them. The durable part is not
 // touched: its changes come afterwards (or before, where it is stored first). After an 8 the cells are the caller's to put back.
+use answers::Answer;
 use answers::is_done;
 use link_tables::command_at;
 use link_timers::Timers;
-use answers::Answer;
 use types::Envelope;
 use types::Id;
 use types::InnerCommand;

@@ -1,6 +1,6 @@
 // An actor between its struct and its rows: laid out, and back.
-use link_durable::Stored;
 use link_durable::Link;
+use link_durable::Stored;
 use link_layout::durable_of;
 use link_layout::durable_row;
 use link_layout::pending_rows;

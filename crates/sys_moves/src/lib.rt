@@ -151,7 +151,19 @@ pub fn ack_only(
     ensures { λ r. ⌜ Delivered kind e (Send (e .src) (Ack number) ∷ []) (now (c .entry)) used len timers r (now (c .exit)) ⌝ }
 {
     let none = [0u64; 16];
-    deliver_row(c, kind, used, len, timers, &none, e, 0, number, 0, MOST_TOLD)
+    deliver_row(
+        c,
+        kind,
+        used,
+        len,
+        timers,
+        &none,
+        e,
+        0,
+        number,
+        0,
+        MOST_TOLD,
+    )
 }
 
 // What a Deliver that is taken leaves of the actor: its number is noted, the rule's commands too, and all of it is stored.

@@ -102,7 +102,7 @@ module _ (kind : Kind) (e : Envelope) (cs : List (List ℕ)) (used n : ℕ) wher
         → Changed cs used n (guard b 3 (done (delivering e (netOf kind last cs used)))) s cs'
     by-there b q last =
         subst (λ (t : Bool). Changed cs used n (guard t 3 (done (delivering e (netOf kind last cs used)))) s cs') q
-            (subst (λ (o : Outcome Net). Changed cs used n o s cs') (deliver-is last) (ch last))
+        (subst (λ (o : Outcome Net). Changed cs used n o s cs') (deliver-is last) (ch last))
 
     pub there-true : isDone (s .answer) ≡ true → there kind e cs used ≡ true
     unfolding guard answerOf
@@ -145,9 +145,9 @@ module _ (kind : Kind) (e : Envelope) (cs : List (List ℕ)) (used n : ℕ) wher
             runs = λ h. absurd (not-both (isDone (s .answer)) h f);
             stops =
                 λ h hall last a. ap (λ (o : Outcome Net). bind o
-                    (λ m. runCommands (roomOf cs) (e .dst) cmds (holding (e .dst) hall m (withTimers (listed w) a))))
-                    (deliver-is last ∙ ap (λ (b : Bool). guard b 3 (done (delivering e (netOf kind last cs used)))) q)
-                    ∙ ap (λ (x : Answer). refused (answerNumber x)) (sym (z .0));
+                (λ m. runCommands (roomOf cs) (e .dst) cmds (holding (e .dst) hall m (withTimers (listed w) a))))
+                (deliver-is last ∙ ap (λ (b : Bool). guard b 3 (done (delivering e (netOf kind last cs used)))) q)
+                ∙ ap (λ (x : Answer). refused (answerNumber x)) (sym (z .0));
             same = λ h. (z .3, refl, refl, refl);
           }
 
@@ -160,7 +160,7 @@ module _ (kind : Kind) (e : Envelope) (cs : List (List ℕ)) (used n : ℕ) wher
           let on : (hall : Around (e .dst)) (last : LastMessage) (a : Actor) → taking kind e cmds cs used w hall last a
           ≡ runCommands (roomOf cs') (e .dst) cmds (sysIn (e .dst) hall kind (lastAfter kind e last) cs' (s .used) w a) =
           λ hall last a. ap (λ (o : Outcome Net). bind o (λ m. runCommands (roomOf cs) (e .dst) cmds (holding (e .dst) hall m (withTimers (listed w) a))))
-              (delivered-net q last)
+          (delivered-net q last)
           ∙ ap (λ (c : Room). runCommands c (e .dst) cmds (sysIn (e .dst) hall kind (lastAfter kind e last) cs' (s .used) w a)) rooms in
           record {
             room = ran .room ∙ ch Nothing .room;
@@ -168,7 +168,7 @@ module _ (kind : Kind) (e : Envelope) (cs : List (List ℕ)) (used n : ℕ) wher
             runs = λ h hall last a. on hall last a ∙ ran .runs h hall (lastAfter kind e last) a;
             stops =
                 λ h hall last a. on hall last a ∙ ran .stops h hall (lastAfter kind e last) a
-                    ∙ ap (λ (x : Answer). refused (answerNumber x)) (sym (ran .full h));
+                ∙ ap (λ (x : Answer). refused (answerNumber x)) (sym (ran .full h));
             same = λ h. absurd (not-both (there kind e cs used) q h);
           }
 

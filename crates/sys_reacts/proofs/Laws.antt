@@ -144,7 +144,7 @@ module _ (kind : Kind) (me source : Id) (cs : List (List ℕ)) (used n w next li
       runs = λ h. absurd (not-both (isDone (s .answer)) h g);
       stops =
           λ h hall last a. ap (λ (l : List Command). runCommands (roomOf cs) me l (sysIn me hall kind last cs used w a)) cmds
-              ∙ sent-stops kind last cs used n _ s cs' (ch last) _ h;
+          ∙ sent-stops kind last cs used n _ s cs' (ch last) _ h;
     }
 
     pub ran-acked : isDone (s .answer) ≡ true → (r : Emitted) (cs'' : List (List ℕ))
@@ -157,7 +157,7 @@ module _ (kind : Kind) (me source : Id) (cs : List (List ℕ)) (used n w next li
         → runCommands (roomOf cs) me (take limit (frontOf source f ++ asked next os)) (sysIn me hall kind last cs used w a)
         ≡ runCommands (roomOf cs') me (take (limit - 1) (asked next os)) (sysIn me hall kind last cs' (s .used) w a) =
         λ hall last a. ap (λ (l : List Command). runCommands (roomOf cs) me l (sysIn me hall kind last cs used w a)) cmds
-            ∙ sent-on kind last cs used n _ s cs' (ch last) _ g
+        ∙ sent-on kind last cs used n _ s cs' (ch last) _ g
         ∙ ap (λ (c : Room). runCommands c me (take (limit - 1) (asked next os)) (sysIn me hall kind last cs' (s .used) w a)) rooms in
         record {
           room = ran .room ∙ ch last.Nothing .room;

@@ -1,9 +1,9 @@
 // The commands of a rule, with an Ack in front where there is one: 6 and 7 beforehand, and after an 8 the cells are put back.
 // Where there is room for all sends no copy is made.
+use answers::Answer;
 use answers::is_done;
 use sys_emits::Emitted;
 use sys_emits::emit;
-use answers::Answer;
 use types::Envelope;
 use types::Id;
 use types::Kind;
@@ -82,7 +82,7 @@ pub fn run_row(
 ) -> Emitted
     requires { ⌜ NetReady kind (now c) used len × RowLaid (now row) × (next + sends (orders (now row) source value) ≤ 18446744073709551615) ⌝ }
     ensures { λ r. ⌜ Ran kind me (take limit (frontOf source first ++ asked next (orders (now (row .entry)) source value))) (now (c .entry)) used timers r
-            (now (c .exit)) ⌝ }
+        (now (c .exit)) ⌝ }
 {
     match first {
         First::Nothing => emit(
@@ -159,9 +159,9 @@ pub fn react_row(
     first: First,
 ) -> Emitted
     requires { ⌜ NetReady kind (now c) used len × RowLaid (now row) × (next + sends (orders (now row) source value) ≤ 18446744073709551615)
-            × (length (now c) ≡ mostEntries) ⌝ }
+        × (length (now c) ≡ mostEntries) ⌝ }
     ensures { λ r. ⌜ Safe kind me (take limit (frontOf source first ++ asked next (orders (now (row .entry)) source value)))
-            (now (c .entry)) used len timers r (now (c .exit)) ⌝ }
+        (now (c .entry)) used len timers r (now (c .exit)) ⌝ }
 {
     let n = row[14];
     if roomy(MOST_ENTRIES, used, len, n + 1) {
@@ -226,7 +226,7 @@ fn take_row(
 ) -> Emitted
     requires { ⌜ NetReady kind (now c) used len × RowLaid (now row) × (next + sends (orders (now row) (e .src) value) ≤ 18446744073709551615) ⌝ }
     ensures { λ r. ⌜ Taken kind e (take limit (frontOf (e .src) (Acked number) ++ asked next (orders (now (row .entry)) (e .src) value)))
-            (now (c .entry)) used len timers r (now (c .exit)) ⌝ }
+        (now (c .entry)) used len timers r (now (c .exit)) ⌝ }
 {
     let s = net_rows::on_deliver(c, kind, used, len, e);
     let a = s.answer;
@@ -273,9 +273,9 @@ pub fn deliver_row(
     limit: usize,
 ) -> Emitted
     requires { ⌜ NetReady kind (now c) used len × RowLaid (now row) × (next + sends (orders (now row) (e .src) value) ≤ 18446744073709551615)
-            × (length (now c) ≡ mostEntries) ⌝ }
+        × (length (now c) ≡ mostEntries) ⌝ }
     ensures { λ r. ⌜ Delivered kind e (take limit (frontOf (e .src) (Acked number) ++ asked next (orders (now (row .entry)) (e .src) value)))
-            (now (c .entry)) used len timers r (now (c .exit)) ⌝ }
+        (now (c .entry)) used len timers r (now (c .exit)) ⌝ }
 {
     let n = row[14];
     if roomy(MOST_ENTRIES, used, len, n + 1) {

@@ -1,8 +1,8 @@
 // A whole system as rows: those of every actor and of every table are laid out once, and an action is then lent those of the
 // actor that it touches. What a run lends from one action to the next.
+use link_inner::Table;
 use link_rows::RECORD;
 use link_rows::ROW;
-use link_inner::Table;
 use link_table_rows::rows_of;
 use net_rows::Sent;
 use sys_act::act;

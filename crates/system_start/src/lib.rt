@@ -1,8 +1,8 @@
 // The start of a system: the tests before it, the first system, the given envelopes, and the actors woken in turn.
 use answers::Answer;
 use answers::is_done;
-use link_durable::fresh_durable;
 use link_durable::Link;
+use link_durable::fresh_durable;
 use link_inner::Table;
 use link_inner::zero_table;
 use net_network::Network;

@@ -68,7 +68,18 @@ fn touch(count: usize, n: Network, b: Actor, t: Table, a: Action) -> Touched
     let mut cells = cells_of(es, n.used);
     let kind = n.kind;
     let s = act(
-        &mut cells, &mut live, &mut pend, &mut kept, &mut stored, &rules, t.used, kind, n.used, len, count, a,
+        &mut cells,
+        &mut live,
+        &mut pend,
+        &mut kept,
+        &mut stored,
+        &rules,
+        t.used,
+        kind,
+        n.used,
+        len,
+        count,
+        a,
     );
     let answer = s.answer;
     let before = n.last;

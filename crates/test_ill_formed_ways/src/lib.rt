@@ -15,9 +15,9 @@
 //
 // Eight numbers stand in a word, the first one lowest.
 use link_durable::Durable;
+use link_durable::Link;
 use link_durable::Stored;
 use link_durable::Taken;
-use link_durable::Link;
 use link_inner::Table;
 use link_inner::zero_table;
 use link_timers::Timers;

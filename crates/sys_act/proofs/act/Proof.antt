@@ -72,9 +72,12 @@ timeout-requires c κs =
     let s = c .before .before .before .before .before .before .before .before .before .before .before in
     let a = s .args in
     let k = c .before .before .before .before .before .before .before .before .before .known .ensures
-    ∙ ap (λ (i : Id). ltb (i .0) (a .count)) (c .before .before .before .before .before .before .before .before .before .before .actor-of .ensures) in
-    (s .pre .0, s .pre .1, below (a .count) (a .a) _ (c .before .before .before .before .before .before .before .a3 .given .1)
-    (sym k ∙ not-false _ (c .before .before .before .before .before .if2 .left)))
+    ∙ ap (λ (i : Id). ltb (i .0) (a .count)) (c .before .before .before .before .before .before .before .before .before .before .actor-of .ensures) in (
+      s .pre .0,
+      s .pre .1,
+      below (a .count) (a .a) _ (c .before .before .before .before .before .before .before .a3 .given .1)
+          (sym k ∙ not-false _ (c .before .before .before .before .before .if2 .left)),
+    )
 
 enum-told : tie.Need-enum-told
 enum-told c = search needs
@@ -124,9 +127,12 @@ recover-requires c κs =
     let s = c .before .before .before .before .before .before .before .before .before .before .before in
     let a = s .args in
     let k = c .before .before .before .before .before .before .before .before .before .known .ensures
-    ∙ ap (λ (i : Id). ltb (i .0) (a .count)) (c .before .before .before .before .before .before .before .before .before .before .actor-of .ensures) in
-    (s .pre .0, s .pre .1, below (a .count) (a .a) _ (c .before .before .before .before .before .before .before .a4 .given .1)
-    (sym k ∙ not-false _ (c .before .before .before .before .before .if4 .left)))
+    ∙ ap (λ (i : Id). ltb (i .0) (a .count)) (c .before .before .before .before .before .before .before .before .before .before .actor-of .ensures) in (
+      s .pre .0,
+      s .pre .1,
+      below (a .count) (a .a) _ (c .before .before .before .before .before .before .before .a4 .given .1)
+          (sym k ∙ not-false _ (c .before .before .before .before .before .if4 .left)),
+    )
 
 returns-5 : tie.Need-returns-5
 unfolding target

@@ -47,8 +47,10 @@ returns-3 c =
     let a = s .args in
     let g = c .on-ack in
     acks (a .kind) (a .e) (a .used) (a .len) (rowsOf (a .c .now) (a .live .now) (a .pend .now) (a .kept .now) (a .stored .now)) (s .pre .0)
-    (rulesIn (a .table .now) (a .rules)) (a .count) (omega (arith,
-    c .before .before .before .before .before .before .before .before .before .before .before .if1 .left))
+    (rulesIn (a .table .now) (a .rules)) (a .count) (omega (
+      arith,
+      c .before .before .before .before .before .before .before .before .before .before .before .if1 .left,
+    ))
     (ne-eqb _ _ (c .before .before .before .before .before .before .before .before .before .if2 .left)) _
     (c .before .before .before .before .before .before .before .m .given .1) (g .result)
     (rowsOf (g .last .0) (g .last .1 .0) (g .last .1 .1 .0) (g .last .1 .1 .1 .0) (g .last .1 .1 .1 .1 .0)) (g .ensures)
@@ -59,8 +61,10 @@ returns-4 c =
     let a = s .args in
     let g = c .hear in
     delivered (a .kind) (a .e) (a .used) (a .len) (rowsOf (a .c .now) (a .live .now) (a .pend .now) (a .kept .now) (a .stored .now)) (s .pre .0)
-    (rulesIn (a .table .now) (a .rules)) (a .count) (omega (arith,
-    c .before .before .before .before .before .before .before .before .before .before .before .if1 .left))
+    (rulesIn (a .table .now) (a .rules)) (a .count) (omega (
+      arith,
+      c .before .before .before .before .before .before .before .before .before .before .before .if1 .left,
+    ))
     (ne-eqb _ _ (c .before .before .before .before .before .before .before .before .before .if2 .left)) _
     (c .before .before .before .before .before .before .before .m2 .given .1) (g .result)
     (rowsOf (g .last .0) (g .last .1 .0) (g .last .1 .1 .0) (g .last .1 .1 .1 .0) (g .last .1 .1 .1 .1 .0)) (g .ensures (a .count))

@@ -48,9 +48,12 @@ emit-one-requires c κs =
     let l = c .before .before .before .before .loop in
     let x = c .before .command-at in
     let h : l .i < getD (a .row .now) 5 0 = omega arith in
-    let q = split-at (a .row .now) (a .source) (a .value) (s .pre .1) (l .i) h (x .result) (x .ensures) in
-    (l .inv .1 .ready, omega arith, along-room (a .kind) (a .me) (take (a .limit) (asked (a .next) os)) (a .c .now) (a .used) (a .timers) (l .c) (l .u) (l .l)
-    (l .w) (l .m) (l .k) (drop (l .i) os) (l .inv .1) (x .result) _ q)
+    let q = split-at (a .row .now) (a .source) (a .value) (s .pre .1) (l .i) h (x .result) (x .ensures) in (
+      l .inv .1 .ready,
+      omega arith,
+      along-room (a .kind) (a .me) (take (a .limit) (asked (a .next) os)) (a .c .now) (a .used) (a .timers) (l .c) (l .u) (l .l)
+          (l .w) (l .m) (l .k) (drop (l .i) os) (l .inv .1) (x .result) _ q,
+    )
 
 is-done-requires : tie.Need-is-done-requires Inv-loop μ-loop
 is-done-requires c κs = search needs
@@ -87,9 +90,11 @@ loop-again c =
     let h : l .i < getD (a .row .now) 5 0 = omega arith in
     let q = split-at (a .row .now) (a .source) (a .value) (s .pre .1) (l .i) h (x .result) (x .ensures) in
     let e = c .before .before .before .emit-one in
-    let g : l .i + 1 ≤ getD (a .row .now) 5 0 = omega arith in
-    (g, along-step (a .kind) (a .me) (take (a .limit) (asked (a .next) os)) (a .c .now) (a .used) (a .timers) (l .c) (l .u) (l .l) (l .w) (l .m) (l .k)
-    (drop (l .i) os) (l .inv .1) (x .result) _ q (e .result) (e .last .0) (e .ensures) (sym (c .before .is-done .ensures) ∙ not-false _ (c .if2 .left)))
+    let g : l .i + 1 ≤ getD (a .row .now) 5 0 = omega arith in (
+      g,
+      along-step (a .kind) (a .me) (take (a .limit) (asked (a .next) os)) (a .c .now) (a .used) (a .timers) (l .c) (l .u) (l .l) (l .w) (l .m) (l .k)
+          (drop (l .i) os) (l .inv .1) (x .result) _ q (e .result) (e .last .0) (e .ensures) (sym (c .before .is-done .ensures) ∙ not-false _ (c .if2 .left)),
+    )
 
 same-length-3 : tie.Need-same-length-3 Inv-loop μ-loop
 same-length-3 c = search needs

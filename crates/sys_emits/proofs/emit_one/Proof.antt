@@ -49,15 +49,15 @@ returns : tie.Need-returns
 returns c =
     let s = c .before .before .before .before .before in
     went-set (s .args .kind) (s .args .me) (s .args .x) (s .args .c .now) (s .args .used) (s .args .len) (s .args .timers) (s .args .next) (s .args .left)
-        (s .pre .0) (s .pre .1) _ (c .before .before .before .x .given .1) _
-        (ap (λ (h : Change). listed (h .timers .0)) (c .before .set .ensures) ∙ listed-set _ _)
+    (s .pre .0) (s .pre .1) _ (c .before .before .before .x .given .1) _
+    (ap (λ (h : Change). listed (h .timers .0)) (c .before .set .ensures) ∙ listed-set _ _)
 
 returns-2 : tie.Need-returns-2
 returns-2 c =
     let s = c .before .before .before .before .before in
     went-cancel (s .args .kind) (s .args .me) (s .args .x) (s .args .c .now) (s .args .used) (s .args .len) (s .args .timers) (s .args .next) (s .args .left)
-        (s .pre .0) (s .pre .1) _ (c .before .before .before .x2 .given .1) _
-        (ap (λ (h : Change). listed (h .timers .0)) (c .before .cancel .ensures) ∙ listed-cancel _ _)
+    (s .pre .0) (s .pre .1) _ (c .before .before .before .x2 .given .1) _
+    (ap (λ (h : Change). listed (h .timers .0)) (c .before .cancel .ensures) ∙ listed-cancel _ _)
 
 returns-3 : tie.Need-returns-3
 returns-3 c =

@@ -20,7 +20,7 @@ returns c =
     let s = (c .before .before .before) in
     let a = s .args in
     subst (λ (l : List Command). Delivered (a .kind) (a .e) l (a .c .now) (a .used) (a .len) (a .timers) ((c .deliver-row) .result)
-        ((c .deliver-row) .last .0)) (zero-cmds _ (a .e .src) (a .number) refl) ((c .deliver-row) .ensures)
+    ((c .deliver-row) .last .0)) (zero-cmds _ (a .e .src) (a .number) refl) ((c .deliver-row) .ensures)
 
 pub ack-only-spec : {M : Type 1} → statement M
 ack-only-spec = tie.close (tie.spec slice-aggregate-deliver-row deliver-row-requires returns)

@@ -110,7 +110,7 @@ returns-3 c =
     (c .before .before .before .before .before .before .before .before .before .before .before .before .before .before .before .before .refusal) .ensures .1 in
     let e = (c .before .before .before .before .before .before .before .before .before .before .before .before .before .before .before .before .refusal)
     .ensures .0 ∙ ap (λ (k : ℕ). answerOf (refusalOf (getD (a .live .now) 0 0) (getD (a .live .now) 1 0) mostPending k))
-        (s .pre .1 .sends (a .source) (a .value)) in
+    (s .pre .1 .sends (a .source) (a .value)) in
     let g = enough (a .me) (a .kind) os (a .timers) (a .state) (a .used) (a .len) x (s .pre .0)
     ((c .before .before .before .before .before .before .before .before .before .before .before .before .before .before .before .before .refusal) .result) e h
     (sym ((c .before .before .before .before .before .before .before .before .before .before .before .before .before .before .before .is-done) .ensures)

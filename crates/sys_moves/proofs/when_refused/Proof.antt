@@ -17,9 +17,11 @@ same-length c = search needs
 returns : tie.Need-returns
 returns c =
     let s = (c .before .before .before) in
-    let a = s .args in
-    (is-there (a .kind) (a .e) (a .c .now) (a .used) (a .len) (s .pre) (a .why) ((c .before .equal-place) .result) ((c .before .equal-place) .ensures)
-    ((c .if1) .taken), refl)
+    let a = s .args in (
+      is-there (a .kind) (a .e) (a .c .now) (a .used) (a .len) (s .pre) (a .why) ((c .before .equal-place) .result) ((c .before .equal-place) .ensures)
+          ((c .if1) .taken),
+      refl,
+    )
 
 enum-told : tie.Need-enum-told
 enum-told c = search needs
@@ -37,9 +39,11 @@ returns-2 : tie.Need-returns-2
 unfolding choose isDuplicating
 returns-2 c =
     let s = (c .before .before .before .before .before) in
-    let a = s .args in
-    (not-there (a .kind) (a .e) (a .c .now) (a .used) (a .len) (s .pre) (a .why) ((c .before .before .before .equal-place) .result)
-    ((c .before .before .before .equal-place) .ensures) ((c .before .before .if1) .left) Ordered ((c .enum-told) .given .1), refl)
+    let a = s .args in (
+      not-there (a .kind) (a .e) (a .c .now) (a .used) (a .len) (s .pre) (a .why) ((c .before .before .before .equal-place) .result)
+          ((c .before .before .before .equal-place) .ensures) ((c .before .before .if1) .left) Ordered ((c .enum-told) .given .1),
+      refl,
+    )
 
 same-length-3 : tie.Need-same-length-3
 same-length-3 c = search needs
@@ -48,9 +52,11 @@ returns-3 : tie.Need-returns-3
 unfolding choose isDuplicating
 returns-3 c =
     let s = (c .before .before .before .before .before) in
-    let a = s .args in
-    (not-there (a .kind) (a .e) (a .c .now) (a .used) (a .len) (s .pre) (a .why) ((c .before .before .before .equal-place) .result)
-    ((c .before .before .before .equal-place) .ensures) ((c .before .before .if1) .left) UnorderedDuplicating ((c .enum-told2) .given .1), refl)
+    let a = s .args in (
+      not-there (a .kind) (a .e) (a .c .now) (a .used) (a .len) (s .pre) (a .why) ((c .before .before .before .equal-place) .result)
+          ((c .before .before .before .equal-place) .ensures) ((c .before .before .if1) .left) UnorderedDuplicating ((c .enum-told2) .given .1),
+      refl,
+    )
 
 same-length-4 : tie.Need-same-length-4
 same-length-4 c = search needs
@@ -59,9 +65,11 @@ returns-4 : tie.Need-returns-4
 unfolding choose isDuplicating
 returns-4 c =
     let s = (c .before .before .before .before .before) in
-    let a = s .args in
-    (not-there (a .kind) (a .e) (a .c .now) (a .used) (a .len) (s .pre) (a .why) ((c .before .before .before .equal-place) .result)
-    ((c .before .before .before .equal-place) .ensures) ((c .before .before .if1) .left) UnorderedNonDuplicating ((c .enum-told3) .given .1), refl)
+    let a = s .args in (
+      not-there (a .kind) (a .e) (a .c .now) (a .used) (a .len) (s .pre) (a .why) ((c .before .before .before .equal-place) .result)
+          ((c .before .before .before .equal-place) .ensures) ((c .before .before .if1) .left) UnorderedNonDuplicating ((c .enum-told3) .given .1),
+      refl,
+    )
 
 pub when-refused-spec : {M : Type 1} → statement M
 when-refused-spec =

@@ -51,10 +51,13 @@ emit-requires-2 : tie.Need-emit-requires-2
 emit-requires-2 c κs =
     let s = (c .before .before .before .before .before .before .before .before .before .before .before) in
     let a = s .args in
-    let os = orders (a .row .now) (a .source) (a .value) in
-    (acked-ready (a .kind) (a .me) (a .source) (a .c .now) (a .used) (a .len) (a .timers) (a .next) (a .limit) (s .pre .0) os (omega arith) (a .first) _
-    ((c .before .before .before .before .before .before .before .before .first) .given .1) ((c .before .before .before .before .send) .result)
-    ((c .before .before .before .before .send) .last .0) ((c .before .before .before .before .send) .ensures), s .pre .1, s .pre .2)
+    let os = orders (a .row .now) (a .source) (a .value) in (
+      acked-ready (a .kind) (a .me) (a .source) (a .c .now) (a .used) (a .len) (a .timers) (a .next) (a .limit) (s .pre .0) os (omega arith) (a .first) _
+          ((c .before .before .before .before .before .before .before .before .first) .given .1) ((c .before .before .before .before .send) .result)
+          ((c .before .before .before .before .send) .last .0) ((c .before .before .before .before .send) .ensures),
+      s .pre .1,
+      s .pre .2,
+    )
 
 same-length-2 : tie.Need-same-length-2
 same-length-2 c = search needs

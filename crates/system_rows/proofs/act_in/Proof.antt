@@ -12,88 +12,88 @@ seat-requires : tie.Need-seat-requires
 seat-requires c κs = search needs
 
 mul-n : tie.Need-mul-n
-mul-n c = 
+mul-n c =
     let s = c .before in
     let h = below (s .pre) (s .args .a) (c .seat .result) (c .seat .ensures) in
     search (needs, h)
 
 element-copy-out-n : tie.Need-element-copy-out-n
-element-copy-out-n c = 
+element-copy-out-n c =
     let s = c .before in
     let h = below (s .pre) (s .args .a) (c .seat .result) (c .seat .ensures) in
     h
 
 mul-act : tie.Need-mul-act
-mul-act c = 
+mul-act c =
     let s = c .before .before .before in
     let h = below (s .pre) (s .args .a) (c .before .before .seat .result) (c .before .before .seat .ensures) in
     search (needs, h)
 
 index-1-act : tie.Need-index-1-act
-index-1-act c = 
+index-1-act c =
     let s = c .before .before .before in
     let h = below (s .pre) (s .args .a) (c .before .before .seat .result) (c .before .before .seat .ensures) in
     h
 
 mul-act-2 : tie.Need-mul-act-2
-mul-act-2 c = 
+mul-act-2 c =
     let s = c .before .before .before .before in
     let h = below (s .pre) (s .args .a) (c .before .before .before .seat .result) (c .before .before .before .seat .ensures) in
     search (needs, h)
 
 index-1-act-2 : tie.Need-index-1-act-2
-index-1-act-2 c = 
+index-1-act-2 c =
     let s = c .before .before .before .before in
     let h = below (s .pre) (s .args .a) (c .before .before .before .seat .result) (c .before .before .before .seat .ensures) in
     h
 
 mul-act-3 : tie.Need-mul-act-3
-mul-act-3 c = 
+mul-act-3 c =
     let s = c .before .before .before .before .before in
     let h = below (s .pre) (s .args .a) (c .before .before .before .before .seat .result) (c .before .before .before .before .seat .ensures) in
     search (needs, h)
 
 index-1-act-3 : tie.Need-index-1-act-3
-index-1-act-3 c = 
+index-1-act-3 c =
     let s = c .before .before .before .before .before in
     let h = below (s .pre) (s .args .a) (c .before .before .before .before .seat .result) (c .before .before .before .before .seat .ensures) in
     h
 
 mul-act-4 : tie.Need-mul-act-4
-mul-act-4 c = 
+mul-act-4 c =
     let s = c .before .before .before .before .before .before in
     let h = below (s .pre) (s .args .a) (c .before .before .before .before .before .seat .result) (c .before .before .before .before .before .seat .ensures) in
     search (needs, h)
 
 index-1-act-4 : tie.Need-index-1-act-4
-index-1-act-4 c = 
+index-1-act-4 c =
     let s = c .before .before .before .before .before .before in
     let h = below (s .pre) (s .args .a) (c .before .before .before .before .before .seat .result) (c .before .before .before .before .before .seat .ensures) in
     h
 
 mul-act-5 : tie.Need-mul-act-5
-mul-act-5 c = 
+mul-act-5 c =
     let s = c .before .before .before .before .before .before .before in
     let h = below (s .pre) (s .args .a) (c .before .before .before .before .before .before .seat .result)
     (c .before .before .before .before .before .before .seat .ensures) in
     search (needs, h)
 
 index-1-act-5 : tie.Need-index-1-act-5
-index-1-act-5 c = 
+index-1-act-5 c =
     let s = c .before .before .before .before .before .before .before in
     let h = below (s .pre) (s .args .a) (c .before .before .before .before .before .before .seat .result)
     (c .before .before .before .before .before .before .seat .ensures) in
     h
 
 act-requires : tie.Need-act-requires
-act-requires c κs = 
+act-requires c κs =
     let s = c .before .before .before .before .before .before .before .before in
     let k = c .before .before .before .before .before .before .before .seat in
     let w = inside (s .pre) (s .args .a) (k .result) (k .ensures) in
     (s .pre .fine (k .result) w, s .pre .tables (k .result) w, s .pre .few)
 
 returns : tie.Need-returns
-returns c = 
+returns c =
     let s = c .before .before .before .before .before .before .before .before .before in
     let k = c .before .before .before .before .before .before .before .before .seat in
     moved (s .pre) (s .args .a) (k .result) (k .ensures) (c .act .result) _ (c .act .ensures)

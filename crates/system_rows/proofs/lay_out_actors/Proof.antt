@@ -58,7 +58,7 @@ index-1-lay-out-4 : tie.Need-index-1-lay-out-4 Inv-loop μ-loop
 index-1-lay-out-4 c = search needs
 
 lay-out-requires : tie.Need-lay-out-requires Inv-loop μ-loop
-lay-out-requires c κs = 
+lay-out-requires c κs =
     let l = c .before .before .before .before .before .before .loop in
     c .before .before .before .before .before .before .before .pre .2 (l .i) (omega arith) _
 
@@ -69,16 +69,18 @@ loop-less : tie.Need-loop-less Inv-loop μ-loop
 loop-less c = search needs
 
 loop-again : tie.Need-loop-again Inv-loop μ-loop
-loop-again c = 
+loop-again c =
     let s = c .before .before .before .before .before .before .before .before in
     let l = c .before .before .before .before .before .before .before .loop in
     let room : length (s .args .t1) ≡ mostActors = search (needs, length-mapped) in
-    let w : l .i < mostActors = omega arith in
-    (search needs, actors-next (s .args .t1) room (l .i) (hallOf (l .lives) (l .pends) (l .kepts) (l .storeds)) (l .inv .1) w _
-    (let v = c .lay-out .last .1 in rowsOf [] (v .0) (v .1 .0) (v .1 .1 .0) (v .1 .1 .1 .0)) (c .lay-out .ensures))
+    let w : l .i < mostActors = omega arith in (
+      search needs,
+      actors-next (s .args .t1) room (l .i) (hallOf (l .lives) (l .pends) (l .kepts) (l .storeds)) (l .inv .1) w _
+          (let v = c .lay-out .last .1 in rowsOf [] (v .0) (v .1 .0) (v .1 .1 .0) (v .1 .1 .1 .0)) (c .lay-out .ensures),
+    )
 
 returns : tie.Need-returns Inv-loop μ-loop
-returns c = 
+returns c =
     let l = c .before .loop in
     let e : l .i ≡ c .before .before .args .count = omega arith in
     subst (λ (n : ℕ). ActorsLaid (c .before .before .args .t1) n (hallOf (l .lives) (l .pends) (l .kepts) (l .storeds))) e (l .inv .1)

@@ -32,7 +32,7 @@ array-copy-out-t : tie.Need-array-copy-out-t Inv-loop μ-loop
 array-copy-out-t c = search needs
 
 rows-of-requires : tie.Need-rows-of-requires Inv-loop μ-loop
-rows-of-requires c κs = 
+rows-of-requires c κs =
     let l = c .before .before .loop in
     c .before .before .before .pre .3 (l .i) (omega arith) _
 
@@ -55,7 +55,7 @@ loop-less : tie.Need-loop-less Inv-loop μ-loop
 loop-less c = search needs
 
 loop-again : tie.Need-loop-again Inv-loop μ-loop
-loop-again c = 
+loop-again c =
     let s = c .before .before .before .before in
     let l = c .before .before .before .loop in
     let room : length (s .args .t1) ≡ mostActors = search (needs, length-mapped) in
@@ -64,7 +64,7 @@ loop-again c =
     (search needs, tables-next (s .args .t1) room (l .i) (booksOf (l .tables) (l .rules)) (l .inv .1) w _ (c .rows-of .result) (e .0) (e .1))
 
 returns : tie.Need-returns Inv-loop μ-loop
-returns c = 
+returns c =
     let l = c .before .loop in
     let e : l .i ≡ c .before .before .args .count = omega arith in
     subst (λ (n : ℕ). TablesLaid (c .before .before .args .t1) n (booksOf (l .tables) (l .rules))) e (l .inv .1)

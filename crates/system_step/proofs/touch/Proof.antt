@@ -26,8 +26,7 @@ act-requires c κs =
     let l = w .before .before .before .before in
     let s = l .before .before .before .before .before in
     let x = l .lay-out .last .1 in
-    let n = w .before .before .len in
-    (
+    let n = w .before .before .len in (
       fine-rows (s .args .count) (s .args .n) (s .args .b) (s .args .t) (s .pre .net) (w .cells-of .result) (w .cells-of .ensures)
           (x .0) (x .1 .0) (x .1 .1 .0) (x .1 .1 .1 .0) (l .lay-out .ensures) (n .result) (n .ensures),
       w .before .before .before .rows-of .ensures .1,
