@@ -22,7 +22,8 @@ pub record Acts (f : Format) (s : List ℕ) (at : ℕ) (ys : List ℕ) (q : ℕ)
   pub here : at < length s
 
 module _ (f : Format) (s : List ℕ) (at : ℕ) {ys : List ℕ} {q : ℕ} where
-  acts-of : {l : List Action} (a : Action) (r : ℕ) → Coming f s at ys q l → actionRead (one (actionForm f) (drop at s) at) ≡ Act a r → Acts f s at ys q l a r
+  acts-of : {l : List Action} (a : Action) (r : ℕ) → Coming f s at ys q l
+      → actionRead (one (actionForm f) (drop at s) at) ≡ Act a r → Acts f s at ys q l a r
   acts-of a r (last p h) e =
       let o : End p ≡ Act a r = ap actionRead (sym h) ∙ e in
       let z : _≡_ {A = ℕ} 0 1 = cc in
@@ -35,8 +36,8 @@ module _ (f : Format) (s : List ℕ) (at : ℕ) {ys : List ℕ} {q : ℕ} where
       subst (λ (k : ℕ). Acts f s at ys q (b ∷ more) a k) y
       (record { more = more; all = ap (λ (c : Action). c ∷ more) x; reads = g; on = w .0; within = w .1; here = w .2 })
 
-  pub acts : {l : List Action} (a : Action) (r : ℕ) → actionsFrom f (drop at s) at ≡ read l ys q → actionRead (one (actionForm f) (drop at s) at) ≡ Act a r
-      → Acts f s at ys q l a r
+  pub acts : {l : List Action} (a : Action) (r : ℕ) → actionsFrom f (drop at s) at ≡ read l ys q
+      → actionRead (one (actionForm f) (drop at s) at) ≡ Act a r → Acts f s at ys q l a r
   acts a r g e = acts-of a r (coming f s at g) e
 
   ends-of : {l : List Action} (r : ℕ) → Coming f s at ys q l → actionRead (one (actionForm f) (drop at s) at) ≡ End r → (l ≡ []) × (at < length s)

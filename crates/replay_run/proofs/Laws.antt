@@ -1,9 +1,9 @@
 -- Why a run writes what it should: each turn reads one action more, the rows take the rules' step, and its line is the next of what is
 -- left to write.
 -- Assumes nothing.
-use Prim.Native.Nat.{ℕ, suc, _+_, _*_, _≤_, _<_}
+use Prim.Native.Nat.{ℕ, _+_, _*_, _≤_, _<_}
 use native.Mathlib.Omega.{arith}
-use mathlib.Core.Path.{_≡_, refl, sym, ap, _∙_, subst}
+use mathlib.Core.Path.{_≡_, sym, ap, _∙_, subst}
 use mathlib.Core.Bool.{Bool, true}
 use mathlib.Core.List.{List, [], _∷_, _++_, append-assoc}
 use lib.ListN.{length, drop}
@@ -17,7 +17,7 @@ use Rattle.answers.specs.Answers.{answerNumber}
 use Rattle.layout.specs.Read.{read, one}
 use Rattle.rules.specs.Outcome.{base}
 use Rattle.rules.specs.System.{Sys}
-use Rattle.rules.specs.Run.{step, answer, after, counted}
+use Rattle.rules.specs.Run.{answer, counted}
 use Rattle.rules.specs.WellFormed.{wellFormed}
 use Rattle.rules.specs.Script.{actionForm, actionsFrom}
 use Rattle.rules.specs.Program.{answerLine, size, line, doneWord}
@@ -43,7 +43,8 @@ net-fits s r = net-ready s (r .laid) (r .formed) .laid .fit
 
 -- ---- after some actions
 -- Of the whole text some was written: the system now, and what is left to do.
-pub record Turn (script : List ℕ) (f : Format) (whole out₀ : List ℕ) (place : ℕ) (write : Bool) (m : Sys) (t : Tally) (at end : ℕ) (out : List ℕ) : Type 0 where
+pub record Turn (script : List ℕ) (f : Format) (whole out₀ : List ℕ) (place : ℕ) (write : Bool) (m : Sys) (t : Tally) (at end : ℕ)
+    (out : List ℕ) : Type 0 where
   pub formed : wellFormed base m ≡ true
   pub actions : List Action
   pub left : List ℕ
@@ -87,7 +88,8 @@ module _ {script : List ℕ} {f : Format} {whole out₀ : List ℕ} {place : ℕ
       splits : rest ≡ text ++ later
       splits =
           ap (restText m (totalsIn t)) (going .all) ∙ rest-next m (totalsIn t) a (going .more)
-          ∙ sym (λ j. answerLine (step-is .number j) (size (step-is .view j)) ++ restText (step-is .view j) (counted (step-is .number j) (totalsIn t)) (going .more))
+          ∙ sym (λ j. answerLine (step-is .number j) (size (step-is .view j))
+          ++ restText (step-is .view j) (counted (step-is .number j) (totalsIn t)) (going .more))
 
       pub line-fits : Fits write end text out
       line-fits = fits-first write end text later out (subst (λ (l : List ℕ). Fits write end l out) splits left-fits)
@@ -105,7 +107,8 @@ module _ {script : List ℕ} {f : Format} {whole out₀ : List ℕ} {place : ℕ
         reads = going .reads;
         fits = g .fits;
         told = g .told ++ text;
-        piece = piece-then (g .told) text (fits-first write place (g .told ++ text) later out₀ (subst (λ (l : List ℕ). Fits write place l out₀) so-far (g .fits)))
+        piece = piece-then (g .told) text
+            (fits-first write place (g .told ++ text) later out₀ (subst (λ (l : List ℕ). Fits write place l out₀) so-far (g .fits)))
             (g .piece) p;
         same = so-far;
         few = omega (arith, g .few, going .on, sum-counted (answerNumber k) t);

@@ -9,7 +9,8 @@ use Rattle.types.specs.declared.Format.{Format}
 use Rattle.system.specs.declared.System.{System}
 use Rattle.replay_run.specs.Views.{Runs, Writes}
 
-module _ (script : List ℕ) (from : ℕ) (f : Format) (s : System) (out : List ℕ) (place : ℕ) (write : Bool) (asked : Runs script from f s out place write) where
+module _ (script : List ℕ) (from : ℕ) (f : Format) (s : System) (out : List ℕ) (place : ℕ) (write : Bool)
+    (asked : Runs script from f s out place write) where
   pub one-run : (e j : ℕ) (left rest : List ℕ) → Writes script from f s out place write e left → Writes script from f s out place write j rest
       → (e ≡ j) × (left ≡ rest)
   one-run e j left rest h k =

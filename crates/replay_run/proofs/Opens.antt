@@ -2,9 +2,8 @@
 -- Assumes nothing.
 use Prim.Native.Nat.{ℕ}
 use mathlib.Core.Path.{_≡_, sym, ap, _∙_, subst}
-use mathlib.Core.Bool.{Bool, true}
+use mathlib.Core.Bool.{Bool}
 use mathlib.Core.List.{List}
-use Rattle.types.specs.declared.Action.{Action}
 use Rattle.types.specs.declared.Format.{Format}
 use Rattle.layout.specs.Read.{read}
 use Rattle.rules.specs.Outcome.{base}

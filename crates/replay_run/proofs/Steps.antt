@@ -2,10 +2,9 @@
 -- Assumes nothing.
 use Prim.Native.Nat.{ℕ}
 use native.Mathlib.Omega.{arith}
-use mathlib.Core.Path.{_≡_, refl, sym, ap, _∙_, subst}
+use mathlib.Core.Path.{_≡_, refl, sym, ap, _∙_}
 use mathlib.Core.Bool.{Bool, true, false}
 use mathlib.Core.List.{List}
-use lib.Dec.{eqb}
 use borrow.Author.Tests.{eqb-true}
 use Rattle.lists.specs.Lists.{choose}
 use Rattle.types.specs.declared.Action.{Action}
@@ -40,7 +39,8 @@ module _ (m : Sys) where
   by-refused (done y) n e = let z : _≡_ {A = ℕ} 0 1 = cc in absurd (omega arith)
   by-refused (refused k) n e = (cc, refl)
 
-  after-formed : (o : Outcome Next) → Holds (λ (y : Next). wellFormed base (y .sys) ≡ true) o → wellFormed base m ≡ true → wellFormed base (after m o) ≡ true
+  after-formed : (o : Outcome Next) → Holds (λ (y : Next). wellFormed base (y .sys) ≡ true) o → wellFormed base m ≡ true
+      → wellFormed base (after m o) ≡ true
   unfolding after
   after-formed (done y) h w = h .value y refl
   after-formed (refused n) h w = w

@@ -10,7 +10,7 @@ use Rattle.rules.specs.System.{Sys}
 use Rattle.rules.specs.Run.{step, answer, after, answers, Totals, counted, totals}
 use Rattle.rules.specs.Program.{answerLine, size, actionLines, doneLine, line, doneWord}
 use Rattle.replay_run.specs.declared.Tally.{Tally}
-use Rattle.replay_run.specs.Views.{runText, totalsIn, tallied}
+use Rattle.replay_run.specs.Views.{runText, tallied}
 
 -- ---- sums of totals
 abbrev plus : Totals → Totals → Totals
@@ -45,11 +45,13 @@ sum-counted zero t = omega arith
 sum-counted (suc zero) t = omega arith
 sum-counted (suc (suc k)) t = omega arith
 
-pub tallied-none : (n : ℕ) (t : Tally) → n ≡ 0 → _≡_ {A = Tally} (record { next = t .next + 1; ignored = t .ignored; refused = t .refused }) (tallied n t)
+pub tallied-none : (n : ℕ) (t : Tally) → n ≡ 0
+    → _≡_ {A = Tally} (record { next = t .next + 1; ignored = t .ignored; refused = t .refused }) (tallied n t)
 unfolding counted
 tallied-none n t e = let w : t .next + 1 ≡ suc (t .next) = omega arith in rw e (λ i. record { next = w i; ignored = t .ignored; refused = t .refused })
 
-pub tallied-one : (n : ℕ) (t : Tally) → n ≡ 1 → _≡_ {A = Tally} (record { next = t .next; ignored = t .ignored + 1; refused = t .refused }) (tallied n t)
+pub tallied-one : (n : ℕ) (t : Tally) → n ≡ 1
+    → _≡_ {A = Tally} (record { next = t .next; ignored = t .ignored + 1; refused = t .refused }) (tallied n t)
 unfolding counted
 tallied-one n t e = let w : t .ignored + 1 ≡ suc (t .ignored) = omega arith in rw e (λ i. record { next = t .next; ignored = w i; refused = t .refused })
 

@@ -19,8 +19,8 @@ use Rattle.system_rows.specs.Views.{Hall, Books, sysOf, Stands}
 use Rattle.replay_run.specs.Views.{runText}
 
 -- Actions can be read from the place on, the rows are a system that is well formed, with some last message, and the output fits.
-pub record Plays (script : List ℕ) (from : ℕ) (f : Format) (out : List ℕ) (place : ℕ) (write : Bool) (count : ℕ) (kind : Kind) (used n : ℕ) (b : Books)
-    (cs : List (List ℕ)) (h : Hall) : Type 0 where
+pub record Plays (script : List ℕ) (from : ℕ) (f : Format) (out : List ℕ) (place : ℕ) (write : Bool) (count : ℕ) (kind : Kind) (used n : ℕ)
+    (b : Books) (cs : List (List ℕ)) (h : Hall) : Type 0 where
   pub stands : Stands count kind used n b cs h
   pub last : LastMessage
   pub formed : wellFormed base (sysOf count kind last cs used b h) ≡ true
@@ -34,7 +34,8 @@ pub record Plays (script : List ℕ) (from : ℕ) (f : Format) (out : List ℕ) 
   pub small : place ≤ 80
 
 -- Whatever the last message was, the run's text is written.
-abbrev pub Played : List ℕ → ℕ → Format → List ℕ → ℕ → Bool → ℕ → Kind → ℕ → ℕ → Books → List (List ℕ) → Hall → ℕ → List ℕ → Type 0
+abbrev pub Played : List ℕ → ℕ → Format → List ℕ → ℕ → Bool → ℕ → Kind → ℕ → ℕ → Books
+    → List (List ℕ) → Hall → ℕ → List ℕ → Type 0
 Played script from f out place write count kind used n b cs h end out' =
     (p : Plays script from f out place write count kind used n b cs h)
     → Piece write place (runText (sysOf count kind (p .last) cs used b h) (p .actions)) out end out'

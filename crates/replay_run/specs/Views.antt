@@ -37,7 +37,8 @@ tallied n t = tallyOf (counted n (totalsIn t))
 -- What a run promises of the place after its text and of the buffer, for whatever actions are read from the place on.
 abbrev pub Writes : List ℕ → ℕ → Format → System → List ℕ → ℕ → Bool → ℕ → List ℕ → Type 0
 Writes script from f s out place write end left =
-    (l : List Action) (ys : List ℕ) (q : ℕ) → actionsFrom f (drop from script) from ≡ read l ys q → Piece write place (runText (sysView s) l) out end left
+    (l : List Action) (ys : List ℕ) (q : ℕ) → actionsFrom f (drop from script) from ≡ read l ys q
+    → Piece write place (runText (sysView s) l) out end left
 
 -- Actions can be read from the place on, the system is well formed, and the output fits.
 pub record Runs (script : List ℕ) (from : ℕ) (f : Format) (s : System) (out : List ℕ) (place : ℕ) (write : Bool) : Type 0 where

@@ -1,6 +1,6 @@
 -- Actors and tables laid out one after the other: those before a place are, and then the one at that place.
 -- Assumes nothing.
-use Prim.Native.Nat.{ℕ, _+_, _≤_, _<_}
+use Prim.Native.Nat.{ℕ, _+_, _<_}
 use native.Mathlib.Omega.{arith}
 use native.Mathlib.Decide.{ℕ-discrete}
 use mathlib.Core.Path.{_≡_, sym, ap, _∙_, subst}
@@ -9,7 +9,6 @@ use lib.ListN.{length, getD, set, length-set}
 use lib.Seq.{getD-set-same, getD-set-other}
 use Rattle.lists.proofs.Places.{get-any}
 use Rattle.types.specs.Capacities.{mostActors}
-use Rattle.types.specs.declared.Rule.{Rule}
 use Rattle.link_inner.specs.declared.Table.{Table}
 use Rattle.link_inner.specs.Views.{rulesOf}
 use Rattle.link_tables.specs.Rows.{TableLaid, rulesIn}

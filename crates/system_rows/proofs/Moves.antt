@@ -5,8 +5,8 @@ use native.Mathlib.Omega.{arith}
 use native.Mathlib.Decide.{ℕ-discrete}
 use mathlib.Core.Path.{_≡_, refl, sym, ap, _∙_, subst}
 use mathlib.Core.Bool.{Bool, true, false}
-use mathlib.Core.List.{List, [], _∷_}
-use lib.ListN.{length, getD, set, length-set}
+use mathlib.Core.List.{List, []}
+use lib.ListN.{length, set, length-set}
 use lib.Seq.{getD-set-same, getD-set-other, set-getD}
 use lib.Dec.{ltb}
 use borrow.Author.Tests.{ltb-true}
@@ -14,16 +14,14 @@ use Rattle.lists.specs.Lists.{choose}
 use Rattle.types.specs.Capacities.{mostActors, mostEntries, mostCopies, mostPending}
 use Rattle.types.specs.declared.Id.{Id}
 use Rattle.types.specs.declared.Kind.{Kind}
-use Rattle.types.specs.declared.Rule.{Rule}
 use Rattle.types.specs.declared.Action.{Action}
 use Rattle.types.specs.declared.LastMessage.{LastMessage}
-use Rattle.rules.specs.Outcome.{Outcome, Caps, done, refused, base}
-use Rattle.rules.specs.System.{Actor, Sys, systems, act}
+use Rattle.rules.specs.Outcome.{done, base}
+use Rattle.rules.specs.System.{Actor, systems, act}
 use Rattle.net_rows.specs.declared.Sent.{Sent}
 use Rattle.net_rows.specs.Views.{netOf}
-use Rattle.sys_seat.specs.Seat.{Around, holding}
+use Rattle.sys_seat.specs.Seat.{Around}
 use Rattle.sys_reacts.specs.Views.{limitsOf}
-use Rattle.sys_rows.specs.Rows.{RowsLaid, actorOf}
 use Rattle.sys_moves.specs.Views.{Rows, actorAt, sysAt, capsOf, Fine, Stepped, lastThen}
 use Rattle.sys_act.specs.Seats.{target, seat, seatOf}
 use Rattle.system_rows.specs.Views.{each, Hall, Books, rowsAt, rulesAt, sysOf, Sized, Stands, Moved}
@@ -75,8 +73,8 @@ module _ (k : ℕ) (x : Rows) (h : Hall) (z : Sized h) (inside : k < mostActors)
       λ j. record { cells = x .cells; live = a j; pend = b j; kept = c j; stored = d j }
 
 -- ---- the system around a seat
-module _ (count : ℕ) (kind : Kind) (b : Books) (cs : List (List ℕ)) (h : Hall) (z : Sized h) (few : count ≤ mostActors) (k : ℕ)
-    (inside : k < count) where
+module _ (count : ℕ) (kind : Kind) (b : Books) (cs : List (List ℕ)) (h : Hall) (z : Sized h) (few : count ≤ mostActors)
+    (k : ℕ) (inside : k < count) where
   abbrev me : Id
   me = record { 0 = k }
 

@@ -2,13 +2,13 @@
 -- Assumes nothing.
 use Prim.Native.Nat.{ℕ, _≤_, _<_}
 use native.Mathlib.Omega.{arith}
-use mathlib.Core.Path.{_≡_, refl, sym, ap, _∙_, subst}
+use mathlib.Core.Path.{_≡_, sym, ap, _∙_, subst}
 use mathlib.Core.Bool.{true}
-use mathlib.Core.List.{List, [], _∷_, map, zipWith}
+use mathlib.Core.List.{List, [], map, zipWith}
 use lib.ListN.{length, take, getD, length-map}
 use lib.Seq.{length-take-le, getD-take}
 use borrow.Author.Tests.{leb-true}
-use Rattle.types.specs.Capacities.{mostActors, lastState}
+use Rattle.types.specs.Capacities.{mostActors}
 use Rattle.types.specs.declared.Id.{Id}
 use Rattle.types.specs.declared.Rule.{Rule}
 use Rattle.lists.proofs.Members.{every-cons}
@@ -20,9 +20,9 @@ use Rattle.rules.specs.WellFormed.{wellFormed}
 use Rattle.net_layout.specs.Layout as net
 use Rattle.net_network.specs.Views.{entryList}
 use Rattle.net_network.proofs.Changes.{cells-room, cells-net, cells-ready}
-use Rattle.link_durable.specs.Views.{durableLaid, storedLaid, durableFine, storedFine}
+use Rattle.link_durable.specs.Views.{durableFine, storedFine}
 use Rattle.link_inner.specs.declared.Table.{Table}
-use Rattle.link_inner.specs.Views.{rulesOf, tableOk, zeroTable}
+use Rattle.link_inner.specs.Views.{tableOk, zeroTable}
 use Rattle.sys_actor.specs.declared.Actor.{Actor}
 use Rattle.sys_actor.specs.Views.{actorAs, actorView, actorFine, zeroActor}
 use Rattle.sys_actor.proofs.Laws.{actor-kept}
@@ -31,7 +31,7 @@ use Rattle.system.specs.Views.{seated, sysView, tableFor, SystemLaid}
 use Rattle.system.proofs.Seats.{zip-length, zip-get}
 use Rattle.system.proofs.Laws.{formed-of, counted, net-ready, seat-ok, actor-at, table-is-ok}
 use Rattle.sys_moves.specs.Views.{actorAt}
-use Rattle.system_rows.specs.Views.{each, Hall, Books, rowsAt, rulesAt, sysOf, Layable, ActorsLaid, TablesLaid, Stands}
+use Rattle.system_rows.specs.Views.{Hall, Books, rowsAt, rulesAt, sysOf, Layable, ActorsLaid, TablesLaid, Stands}
 use Rattle.system_rows.proofs.Places.{each-is}
 
 module _ (s : System) (laid : SystemLaid s) (formed : wellFormed base (sysView s) ≡ true) where

@@ -3,7 +3,7 @@
 use Prim.Native.Nat.{ℕ, zero, suc, _<_}
 use native.Mathlib.Omega.{arith}
 use mathlib.Core.Path.{_≡_, refl, sym, ap, ap₂, _∙_}
-use mathlib.Core.List.{List, [], _∷_}
+use mathlib.Core.List.{List, _∷_}
 use lib.ListN.{length, getD, set}
 use lib.Seq.{ext-getD}
 use Rattle.system_rows.specs.Views.{each}
@@ -31,8 +31,8 @@ module _ {A : Type 0} where
   each-same zero f g h = refl
   each-same (suc n) f g h = ap₂ (λ (x : A) (l : List A). x ∷ l) (h 0) (each-same n (λ i. f (suc i)) (λ i. g (suc i)) (λ i. h (suc i)))
 
-  pub each-set : (n : ℕ) (f g : ℕ → A) (k : ℕ) (a : A) → k < n → g k ≡ a → ((i : ℕ) → (i ≡ k → ⊥) → g i ≡ f i) → each n g
-      ≡ set (each n f) k a
+  pub each-set : (n : ℕ) (f g : ℕ → A) (k : ℕ) (a : A) → k < n → g k ≡ a
+      → ((i : ℕ) → (i ≡ k → ⊥) → g i ≡ f i) → each n g ≡ set (each n f) k a
   unfolding each
   each-set zero f g k a h e o = absurd (omega arith)
   each-set (suc n) f g zero a h e o =

@@ -92,9 +92,8 @@ pub record Stands (count : ℕ) (kind : Kind) (used n : ℕ) (b : Books) (cs : L
   pub tables : (i : ℕ) → i < count → TableLaid (getD (b .tables) i []) (getD (b .rules) i 0)
 
 -- Done: the rows are the system that the rules say, whatever the last message was; else the answer is the rules', and everything is as it was.
-pub record Moved (count : ℕ) (a : Action) (kind : Kind) (used n : ℕ) (b : Books) (cs : List (List ℕ)) (h : Hall) (r : Sent) (cs' : List (List ℕ))
-    (h' : Hall)
-    : Type 0 where
+pub record Moved (count : ℕ) (a : Action) (kind : Kind) (used n : ℕ) (b : Books) (cs : List (List ℕ)) (h : Hall) (r : Sent)
+    (cs' : List (List ℕ)) (h' : Hall) : Type 0 where
   pub stands : Stands count kind (r .used) (r .len) b cs' h'
   pub runs : isDone (r .answer) ≡ true → (last : LastMessage)
       → systems (act base (sysOf count kind last cs used b h) a) ≡ done (sysOf count kind (lastThen kind a last) cs' (r .used) b h')

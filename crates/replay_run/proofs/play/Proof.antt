@@ -2,8 +2,8 @@
 use borrow.Author.Needs.{needs}
 use native.Mathlib.Omega.{arith}
 use Prim.Native.Nat.{_-_}
-use mathlib.Core.Path.{_≡_, sym, ap, _∙_}
-use lib.ListN.{length, drop}
+use mathlib.Core.Path.{sym, _∙_}
+use lib.ListN.{length}
 use Rattle.replay_lines.proofs.Laws.{length-left}
 use Rattle.system_rows.specs.Views.{hallOf, booksOf, sysOf}
 use Rattle.replay_run.specs.Views.{runText}
@@ -11,25 +11,17 @@ use Rattle.replay_run.specs.Plays.{Plays}
 use Rattle.replay_run.proofs.Laws.{Going, starts, going, move-fits, move-on, over, end-fits, turn-end, kept-length, no-bad}
 use Rattle.replay_run.proofs.play.Statement.{statement}
 use Rattle.replay_run.proofs.play.Tie as tie
-use Rattle.replay_run.proofs.play.Reads as reads
-use Rattle.replay_run.proofs.play.Lts as lts
-use Rattle.answers.proofs.number_of.Reads as number-of-reads
-use Rattle.replay_lines.proofs.answer_line.Reads as answer-line-reads
-use Rattle.replay_lines.proofs.done_line.Reads as done-line-reads
-use Rattle.replay_run.proofs.count_answer.Reads as count-answer-reads
-use Rattle.script_records.proofs.read_action.Reads as read-action-reads
-use Rattle.system_rows.proofs.act_in.Reads as act-in-reads
 
 abbrev Inv-loop : tie.InvT-loop
-Inv-loop script from f out₀ place write cells₀ lives₀ pends₀ kepts₀ storeds₀ tables rules kind first sum count used₀ len₀ totals₀ at₀ end₀ out cells lives pends kepts storeds used
-    len totals at end =
+Inv-loop script from f out₀ place write cells₀ lives₀ pends₀ kepts₀ storeds₀ tables rules kind first sum count used₀ len₀ totals₀ at₀ end₀
+    out cells lives pends kepts storeds used len totals at end =
     (p : Plays script from f out₀ place write count kind first sum (booksOf tables rules) cells₀ (hallOf lives₀ pends₀ kepts₀ storeds₀))
     → Going script f (runText (sysOf count kind (p .last) cells₀ first (booksOf tables rules) (hallOf lives₀ pends₀ kepts₀ storeds₀)) (p .actions))
     out₀ place write count kind used len (booksOf tables rules) cells (hallOf lives pends kepts storeds) totals at end out
 
 abbrev μ-loop : tie.MeasureT-loop
-μ-loop script from f out₀ place write cells₀ lives₀ pends₀ kepts₀ storeds₀ tables rules kind first sum count used₀ len₀ totals₀ at₀ end₀ out cells lives pends kepts storeds used
-    len totals at end =
+μ-loop script from f out₀ place write cells₀ lives₀ pends₀ kepts₀ storeds₀ tables rules kind first sum count used₀ len₀ totals₀ at₀ end₀
+    out cells lives pends kepts storeds used len totals at end =
     length script - at
 
 loop-holds : tie.Need-loop-holds Inv-loop μ-loop
@@ -42,7 +34,9 @@ enum-known-x : tie.Need-enum-known-x Inv-loop μ-loop
 enum-known-x c = search needs
 
 act-in-requires : tie.Need-act-in-requires Inv-loop μ-loop
-act-in-requires c κs = c .before .before .before .before .before .before .before .before .before .loop .inv (c .before .before .before .before .before .before .before .before .before .before .before .before .pre) .stands
+act-in-requires c κs =
+    let l = c .before .before .before .before .before .before .before .before .before in
+    l .loop .inv (l .before .before .before .pre) .stands
 
 number-of-requires : tie.Need-number-of-requires Inv-loop μ-loop
 number-of-requires c κs = search needs
@@ -50,8 +44,9 @@ number-of-requires c κs = search needs
 answer-line-requires : tie.Need-answer-line-requires Inv-loop μ-loop
 answer-line-requires c κs =
     let x = c .before .before .before .before .before .before .before .before .before in
-    let p = c .before .before .before .before .before .before .before .before .before .before .before .before .before .before .before .pre in
-    let g = c .before .before .before .before .before .before .before .before .before .before .before .before .loop .inv p in
+    let l = x .before .before .before in
+    let p = l .before .before .before .pre in
+    let g = l .loop .inv p in
     let a = x .x .given .0 .0 in
     let r = x .x .given .0 .1 .0 in
     let seen = sym (x .before .before .read-action .ensures .0) ∙ x .x .given .1 in
@@ -63,8 +58,9 @@ answer-line-requires c κs =
 count-answer-requires : tie.Need-count-answer-requires Inv-loop μ-loop
 count-answer-requires c κs =
     let x = c .before .before .before .before .before .before .before .before .before .before .before .before in
-    let p = c .before .before .before .before .before .before .before .before .before .before .before .before .before .before .before .before .before .before .pre in
-    let g = c .before .before .before .before .before .before .before .before .before .before .before .before .before .before .before .loop .inv p in
+    let l = x .before .before .before in
+    let p = l .before .before .before .pre in
+    let g = l .loop .inv p in
     let a = x .x .given .0 .0 in
     let r = x .x .given .0 .1 .0 in
     let seen = sym (x .before .before .read-action .ensures .0) ∙ x .x .given .1 in
@@ -74,8 +70,9 @@ count-answer-requires c κs =
 loop-less : tie.Need-loop-less Inv-loop μ-loop
 loop-less c =
     let x = c .before .before .before .before .before .before .before .before .before .before .before .before .before in
-    let p = c .before .before .before .before .before .before .before .before .before .before .before .before .before .before .before .before .before .before .before .pre in
-    let g = c .before .before .before .before .before .before .before .before .before .before .before .before .before .before .before .before .loop .inv p in
+    let l = x .before .before .before in
+    let p = l .before .before .before .pre in
+    let g = l .loop .inv p in
     let a = x .x .given .0 .0 in
     let r = x .x .given .0 .1 .0 in
     let seen = sym (x .before .before .read-action .ensures .0) ∙ x .x .given .1 in
@@ -92,7 +89,8 @@ loop-again c =
     let n = c .before .before .before .before .before .number-of .ensures in
     let e = c .before .before .before .answer-line .ensures in
     λ p. rw (c .count-answer .ensures, n)
-    (move-on (c .before .before .before .before .before .before .before .before .before .before .before .before .before .before .before .before .loop .inv p) a r seen (m .result) _ _ (m .ensures) (rw (← n) (record { next = e .0; bytes = e .1 .0 })) (e .1 .1))
+    (move-on (x .before .before .before .loop .inv p) a r seen (m .result) _ _ (m .ensures)
+    (rw (← n) (record { next = e .0; bytes = e .1 .0 })) (e .1 .1))
 
 enum-told : tie.Need-enum-told Inv-loop μ-loop
 enum-told c = search needs

@@ -6,13 +6,6 @@ use Rattle.replay_run.proofs.Opens.{plays, writes}
 use borrow.Author.Needs.{needs}
 use Rattle.replay_run.proofs.run.Statement.{statement}
 use Rattle.replay_run.proofs.run.Tie as tie
-use Rattle.replay_run.proofs.run.Reads as reads
-use Rattle.replay_run.proofs.run.Lts as lts
-use Rattle.net_layout.proofs.cells_of.Reads as cells-of-reads
-use Rattle.net_network.proofs.len.Reads as len-reads
-use Rattle.replay_run.proofs.play.Reads as play-reads
-use Rattle.system_rows.proofs.lay_out_actors.Reads as lay-out-actors-reads
-use Rattle.system_rows.proofs.lay_out_tables.Reads as lay-out-tables-reads
 
 len-requires : tie.Need-len-requires
 len-requires c κs = net-fits _ (c .before .before .before .before .pre .ready)
@@ -36,7 +29,9 @@ play-requires : tie.Need-play-requires
 play-requires c κs =
     let t = c .before .before .before .before .before .before .before .before in
     let a = t .before .before .before .before in
-    plays (t .before .before .before .before .before .before .before .before .before .before .before .before .before .before .before .before .pre) _ (t .before .before .before .before .before .before .before .before .before .before .cells-of .ensures) _ (t .before .before .before .before .before .before .before .before .before .before .before .len .ensures) _ (a .lay-out-actors .ensures) _ (t .lay-out-tables .ensures)
+    let b = a .before .before .before .before .before .before in
+    plays (b .before .before .before .before .before .before .pre) _ (b .cells-of .ensures) _ (b .before .len .ensures) _
+    (a .lay-out-actors .ensures) _ (t .lay-out-tables .ensures)
 
 same-length : tie.Need-same-length
 same-length c = search needs
@@ -45,7 +40,9 @@ returns : tie.Need-returns
 returns c =
     let t = c .before .before .before .before .before .before .before .before .before .before .before in
     let a = t .before .before .before .before in
-    writes (t .before .before .before .before .before .before .before .before .before .before .before .before .before .before .before .before .pre) _ (t .before .before .before .before .before .before .before .before .before .before .cells-of .ensures) _ (t .before .before .before .before .before .before .before .before .before .before .before .len .ensures) _ (a .lay-out-actors .ensures) _ (t .lay-out-tables .ensures)
+    let b = a .before .before .before .before .before .before in
+    writes (b .before .before .before .before .before .before .pre) _ (b .cells-of .ensures) _ (b .before .len .ensures) _
+    (a .lay-out-actors .ensures) _ (t .lay-out-tables .ensures)
     (c .before .before .play .ensures)
 
 pub run-spec : {M : Type 1} → statement M

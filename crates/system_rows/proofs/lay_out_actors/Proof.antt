@@ -1,5 +1,5 @@
 -- Those before a place are laid out, and each turn lays out the one at it.
-use Prim.Native.Nat.{ℕ}
+use Prim.Native.Nat.{ℕ, _≤_, _<_, _-_}
 use mathlib.Core.Path.{_≡_, subst}
 use mathlib.Core.List.{[]}
 use lib.ListN.{length}
@@ -9,13 +9,9 @@ use Rattle.sys_moves.specs.Views.{rowsOf}
 use Rattle.system_rows.proofs.Lays.{actors-none, actors-next}
 use borrow.Author.Needs.{needs}
 use native.Mathlib.Omega.{arith}
-use Prim.Native.Nat.{_≤_, _<_, _-_}
 use Rattle.system_rows.specs.Views.{hallOf, ActorsLaid}
 use Rattle.system_rows.proofs.lay_out_actors.Statement.{statement}
 use Rattle.system_rows.proofs.lay_out_actors.Tie as tie
-use Rattle.system_rows.proofs.lay_out_actors.Reads as reads
-use Rattle.system_rows.proofs.lay_out_actors.Lts as lts
-use Rattle.sys_layout.proofs.lay_out.Reads as lay-out-reads
 
 abbrev Inv-loop : tie.InvT-loop
 Inv-loop count lives₀ pends₀ kepts₀ storeds₀ actors i₀ lives pends kepts storeds i =

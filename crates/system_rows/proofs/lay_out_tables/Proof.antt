@@ -1,5 +1,5 @@
 -- Those before a place are laid out, and each turn lays out the one at it.
-use Prim.Native.Nat.{ℕ}
+use Prim.Native.Nat.{ℕ, _≤_, _<_, _-_}
 use mathlib.Core.Path.{_≡_, subst}
 use lib.ListN.{length}
 use Rattle.lists.proofs.Places.{length-mapped}
@@ -7,13 +7,9 @@ use Rattle.types.specs.Capacities.{mostActors}
 use Rattle.system_rows.proofs.Lays.{tables-none, tables-next}
 use borrow.Author.Needs.{needs}
 use native.Mathlib.Omega.{arith}
-use Prim.Native.Nat.{_≤_, _<_, _-_}
 use Rattle.system_rows.specs.Views.{booksOf, TablesLaid}
 use Rattle.system_rows.proofs.lay_out_tables.Statement.{statement}
 use Rattle.system_rows.proofs.lay_out_tables.Tie as tie
-use Rattle.system_rows.proofs.lay_out_tables.Reads as reads
-use Rattle.system_rows.proofs.lay_out_tables.Lts as lts
-use Rattle.link_table_rows.proofs.rows_of.Reads as rows-of-reads
 
 abbrev Inv-loop : tie.InvT-loop
 Inv-loop count tables₀ rules₀ ts i₀ tables rules i =
