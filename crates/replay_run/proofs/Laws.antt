@@ -26,10 +26,10 @@ use Rattle.script_records.specs.declared.ActionRead.the-variants.{Act, End, Bad
 use Rattle.script_records.specs.Views.{actionRead}
 use Rattle.replay_lines.specs.Pieces.{Fits, Piece}
 use Rattle.replay_lines.proofs.Laws.{none, length-left, fits-first, fits-then, piece-then}
-use Rattle.system.specs.declared.System.{System}
-use Rattle.system.proofs.Laws.{net-ready}
-use Rattle.system_parts.specs.Views.{Ready}
-use Rattle.system_rows.specs.Views.{Hall, Books, sysOf, Stands, Moved}
+use Rattle.sys_system.specs.declared.System.{System}
+use Rattle.sys_system.proofs.Laws.{net-ready}
+use Rattle.sys_answered.specs.Views.{Ready}
+use Rattle.sys_all_rows.specs.Views.{Hall, Books, sysOf, Stands, Moved}
 use Rattle.replay_run.specs.declared.Tally.{Tally}
 use Rattle.replay_run.specs.Views.{runText, totalsIn, tallied}
 use Rattle.replay_run.specs.Plays.{Plays}

@@ -6,7 +6,7 @@ use mathlib.Core.Path.{_≡_, sym, _∙_}
 use mathlib.Core.Bool.{Bool}
 use mathlib.Core.List.{List}
 use Rattle.types.specs.declared.Format.{Format}
-use Rattle.system.specs.declared.System.{System}
+use Rattle.sys_system.specs.declared.System.{System}
 use Rattle.replay_run.specs.Views.{Runs, Writes}
 
 module _ (script : List ℕ) (from : ℕ) (f : Format) (s : System) (out : List ℕ) (place : ℕ) (write : Bool)

@@ -13,10 +13,10 @@ use Rattle.rules.specs.WellFormed.{wellFormed}
 use Rattle.net_layout.specs.Layout.{LaidOut}
 use Rattle.net_network.specs.Views.{entryList}
 use Rattle.replay_lines.specs.Pieces.{Fits, Piece}
-use Rattle.system.specs.declared.System.{System}
-use Rattle.system.specs.Views.{sysView}
-use Rattle.system_rows.specs.Views.{Hall, Books, sysOf, ActorsLaid, TablesLaid}
-use Rattle.system_rows.proofs.Opens.{opens, opens-view}
+use Rattle.sys_system.specs.declared.System.{System}
+use Rattle.sys_system.specs.Views.{sysView}
+use Rattle.sys_all_rows.specs.Views.{Hall, Books, sysOf, ActorsLaid, TablesLaid}
+use Rattle.sys_all_rows.proofs.Opens.{opens, opens-view}
 use Rattle.replay_run.specs.Views.{runText, Runs, Writes}
 use Rattle.replay_run.specs.Plays.{Plays, Played}
 

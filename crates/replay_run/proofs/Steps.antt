@@ -21,7 +21,7 @@ use Rattle.rules.proofs.Answers.{formed-step}
 use Rattle.rules.proofs.Formed.{step-formed}
 use Rattle.net_rows.specs.declared.Sent.{Sent}
 use Rattle.sys_moves.specs.Views.{lastThen}
-use Rattle.system_rows.specs.Views.{Hall, Books, sysOf, Moved}
+use Rattle.sys_all_rows.specs.Views.{Hall, Books, sysOf, Moved}
 
 -- From m an action gave this answer, and leaves m'.
 pub record Took (m : Sys) (a : Action) (k : Answer) (m' : Sys) : Type 0 where

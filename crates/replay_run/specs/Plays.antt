@@ -15,7 +15,7 @@ use Rattle.rules.specs.Outcome.{base}
 use Rattle.rules.specs.WellFormed.{wellFormed}
 use Rattle.rules.specs.Script.{Fine, actionsFrom}
 use Rattle.replay_lines.specs.Pieces.{Fits, Piece}
-use Rattle.system_rows.specs.Views.{Hall, Books, sysOf, Stands}
+use Rattle.sys_all_rows.specs.Views.{Hall, Books, sysOf, Stands}
 use Rattle.replay_run.specs.Views.{runText}
 
 -- Actions can be read from the place on, the rows are a system that is well formed, with some last message, and the output fits.

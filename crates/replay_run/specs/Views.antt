@@ -15,9 +15,9 @@ use Rattle.rules.specs.Run.{answers, Totals, counted, totals}
 use Rattle.rules.specs.Script.{Fine, actionsFrom}
 use Rattle.rules.specs.Program.{actionLines, doneLine}
 use Rattle.replay_lines.specs.Pieces.{Fits, Piece}
-use Rattle.system.specs.declared.System.{System}
-use Rattle.system.specs.Views.{sysView}
-use Rattle.system_parts.specs.Views.{Ready}
+use Rattle.sys_system.specs.declared.System.{System}
+use Rattle.sys_system.specs.Views.{sysView}
+use Rattle.sys_answered.specs.Views.{Ready}
 use Rattle.replay_run.specs.declared.Tally.{Tally}
 
 -- A line for each action, then the totals.

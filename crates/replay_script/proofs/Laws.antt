@@ -37,10 +37,10 @@ use Rattle.script_check.specs.Views.{layoutOf}
 use Rattle.script_check.proofs.Whole.{Parts}
 use Rattle.replay_lines.specs.Pieces.{put, Fits, Piece}
 use Rattle.replay_lines.proofs.Laws.{fits-first, fits-then, piece-then}
-use Rattle.system.specs.Views.{sysView, systemOf}
-use Rattle.system.proofs.Laws.{system-back, image-laid}
-use Rattle.system_parts.specs.declared.Answered.{Answered}
-use Rattle.system_parts.specs.Views.{Ready, answeredOf}
+use Rattle.sys_system.specs.Views.{sysView, systemOf}
+use Rattle.sys_system.proofs.Laws.{system-back, image-laid}
+use Rattle.sys_answered.specs.declared.Answered.{Answered}
+use Rattle.sys_answered.specs.Views.{Ready, answeredOf}
 use Rattle.replay_run.specs.Views.{runText, Runs}
 use Rattle.replay_script.specs.Views.{Told, longest}
 use Rattle.replay_script.proofs.Long.{whole-short}

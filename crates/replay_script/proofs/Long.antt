@@ -32,8 +32,8 @@ use Rattle.net_network.proofs.Ready.{viewed}
 use Rattle.script_check.proofs.Actions.{Coming, last, next, coming, span}
 use Rattle.replay_lines.proofs.Laws.{length-line}
 use Rattle.replay_script.specs.Views.{longest}
-use Rattle.system.specs.Views.{sysView, systemOf}
-use Rattle.system.proofs.Laws.{image-laid, system-back, net-ready}
+use Rattle.sys_system.specs.Views.{sysView, systemOf}
+use Rattle.sys_system.proofs.Laws.{image-laid, system-back, net-ready}
 
 -- ---- how many actions
 pub fewer : (f : Format) (s : List ℕ) (at : ℕ) (l : List Action) {ys : List ℕ} {q : ℕ} → Coming f s at ys q l → at + length l ≤ length s

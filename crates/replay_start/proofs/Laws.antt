@@ -25,12 +25,12 @@ use Rattle.link_inner.specs.declared.Table.{Table}
 use Rattle.link_inner.specs.Views.{rulesOf}
 use Rattle.link_durable.proofs.Containers.{pad-view}
 use Rattle.link_inner.specs.Views.{tableAs, zeroTable}
-use Rattle.system.specs.Views.{tableLaid, systemOf}
-use Rattle.system.proofs.Tables.{rules-back, table-fits}
-use Rattle.system_parts.specs.declared.Answered.{Answered}
-use Rattle.system_parts.specs.Views.{answeredOf}
-use Rattle.system_start.specs.declared.Given.{Given}
-use Rattle.system_start.specs.Views.{startLaid, started}
+use Rattle.sys_system.specs.Views.{tableLaid, systemOf}
+use Rattle.sys_system.proofs.Tables.{rules-back, table-fits}
+use Rattle.sys_answered.specs.declared.Answered.{Answered}
+use Rattle.sys_answered.specs.Views.{answeredOf}
+use Rattle.sys_start.specs.declared.Given.{Given}
+use Rattle.sys_start.specs.Views.{startLaid, started}
 use Rattle.script_opening.specs.declared.OpeningRead.{OpeningRead}
 use Rattle.script_opening.specs.Views.{zeroEnvelope, openingRead}
 use Rattle.script_opening.proofs.Readings.{told-found, few-rules, few-envelopes, few-actors}

@@ -5,8 +5,8 @@ use Rattle.rules.specs.Outcome.{Outcome, refused, base}
 use Rattle.rules.specs.System.{Next, systems}
 use Rattle.rules.specs.Start.{blank, start}
 use Rattle.rules.specs.Script.{Opening}
-use Rattle.system.specs.Views.{systemOf}
-use Rattle.system_parts.specs.Views.{answeredOf}
+use Rattle.sys_system.specs.Views.{systemOf}
+use Rattle.sys_answered.specs.Views.{answeredOf}
 use Rattle.replay_start.specs.declared.Opened.{Opened}
 
 -- The start of what was read. A bad record is refused as 11.

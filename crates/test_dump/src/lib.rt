@@ -3,7 +3,7 @@
 use link_durable::Durable;
 use net_network::Network;
 use sys_actor::Actor;
-use system::System;
+use sys_system::System;
 use types::Envelope;
 use types::Kind;
 use types::LastMessage;

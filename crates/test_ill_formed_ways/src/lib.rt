@@ -24,7 +24,7 @@ use link_timers::Timers;
 use net_network::Network;
 use sys_actor::Actor;
 use sys_actor::zero_actor;
-use system::System;
+use sys_system::System;
 use types::Entry;
 use types::Envelope;
 use types::Id;

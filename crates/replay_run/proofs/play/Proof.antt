@@ -5,7 +5,7 @@ use Prim.Native.Nat.{_-_}
 use mathlib.Core.Path.{sym, _∙_}
 use lib.ListN.{length}
 use Rattle.replay_lines.proofs.Laws.{length-left}
-use Rattle.system_rows.specs.Views.{hallOf, booksOf, sysOf}
+use Rattle.sys_all_rows.specs.Views.{hallOf, booksOf, sysOf}
 use Rattle.replay_run.specs.Views.{runText}
 use Rattle.replay_run.specs.Plays.{Plays}
 use Rattle.replay_run.proofs.Laws.{Going, starts, going, move-fits, move-on, over, end-fits, turn-end, kept-length, no-bad}

@@ -1,6 +1,6 @@
 -- The system is laid out as rows, which are played on.
 use mathlib.Core.Path.{refl}
-use Rattle.system_rows.proofs.Opens.{few, layable, table-ok}
+use Rattle.sys_all_rows.proofs.Opens.{few, layable, table-ok}
 use Rattle.replay_run.proofs.Laws.{net-fits}
 use Rattle.replay_run.proofs.Opens.{plays, writes}
 use borrow.Author.Needs.{needs}

@@ -9,8 +9,8 @@ use Rattle.rules.specs.System.{systems}
 use Rattle.rules.specs.Start.{blank}
 use Rattle.rules.specs.Script.{versions, formatOf, actionsFrom}
 use Rattle.script_check.proofs.Whole.{Parts, parts-of}
-use Rattle.system.specs.Views.{systemOf}
-use Rattle.system_parts.specs.Views.{answeredOf}
+use Rattle.sys_system.specs.Views.{systemOf}
+use Rattle.sys_answered.specs.Views.{answeredOf}
 use Rattle.replay_start.specs.declared.Opened.{Opened}
 use Rattle.replay_start.specs.Views.{openedOf}
 use Rattle.replay_script.proofs.Laws.{Begun, m, begun, used-fits, first-fits, ends-fit, ends-all, runs-so, runs-all}

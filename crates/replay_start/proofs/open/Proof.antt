@@ -3,8 +3,8 @@ use borrow.Author.Tests.{not-true, not-false}
 use mathlib.Core.Path.{_≡_, sym, ap, _∙_}
 use Rattle.rules.specs.Script.{versions, openingFrom}
 use Rattle.rules.specs.Start.{blank}
-use Rattle.system.specs.Views.{systemOf}
-use Rattle.system_parts.specs.Views.{answeredOf}
+use Rattle.sys_system.specs.Views.{systemOf}
+use Rattle.sys_answered.specs.Views.{answeredOf}
 use Rattle.script_opening.proofs.Readings.{told-bad}
 use Rattle.script_opening.proofs.Lists.{opening-tells}
 use Rattle.replay_start.specs.Views.{openedOf}
