@@ -44,7 +44,8 @@ kind-above (suc (suc k)) f g = refl
 
 -- ---- the loops: what is written next to the first i, where the rest is zero
 module _ {A : Type 0} (n : ℕ) (z : A) where
-  pub copied-on : (xs es : List A) (i : ℕ) (d : A) → i < length xs → i < n → es ≡ pad n z (take i xs) → set es i (getD xs i d) ≡ pad n z (take (i + 1) xs)
+  pub copied-on : (xs es : List A) (i : ℕ) (d : A) → i < length xs → i < n → es ≡ pad n z (take i xs) → set es i (getD xs i d)
+      ≡ pad n z (take (i + 1) xs)
   copied-on xs es i d h k e =
       let m = length-take-le i xs (omega arith) in
       ap (λ (l : List A). set l i (getD xs i d)) e
@@ -99,7 +100,8 @@ module _ (count : ℕ) (tables : List Table) (room : length tables ≡ mostActor
       let l = take count tables in
       let m : length (tablesView count tables) ≡ count = length-map l rulesOf ∙ length-take-le count tables (omega arith) in
       let c = sym (length-map (tablesView count tables) rules.unstarted ∙ m) in
-      let a = ap (pad mostActors zeroActor) (ap (λ (j : ℕ). replicate j (actorAs (rules.unstarted []))) (sym m) ∙ sym (fresh-all (tablesView count tables))) in
+      let a = ap (pad mostActors zeroActor) (ap (λ (j : ℕ). replicate j (actorAs (rules.unstarted []))) (sym m)
+      ∙ sym (fresh-all (tablesView count tables))) in
       let t = ap (pad mostActors zeroTable) (sym (own-all l (λ u i. table-laid u (typed u (take-in count tables u i)) (table-parts u (all-in _ _ e u i) .0))))
       in
       λ i. record { count = c i; network = networkOf n; actors = a i; tables = t i }

@@ -60,7 +60,8 @@ refused-number n e =
     let q = any-in (eqb n) (6 ∷ 7 ∷ 8 ∷ 10 ∷ []) e in
     subst (λ (k : ℕ). refusal k ≡ true) (sym (eqb-true n (q .0) (q .2))) (all-in refusal (6 ∷ 7 ∷ 8 ∷ 10 ∷ []) refl (q .0) (q .1))
 
-among-numbers : (o : Outcome Next) → (answer o ≡ 0) ⊎ (any (eqb (answer o)) (6 ∷ 7 ∷ 8 ∷ 10 ∷ []) ≡ true) → (answer o ≡ 0 → (x : Next) × (o ≡ done x))
+among-numbers : (o : Outcome Next) → (answer o ≡ 0) ⊎ (any (eqb (answer o)) (6 ∷ 7 ∷ 8 ∷ 10 ∷ []) ≡ true)
+    → (answer o ≡ 0 → (x : Next) × (o ≡ done x))
     → Among refusal (systems o)
 unfolding Among answer systems
 among-numbers (done x) e f = tt
@@ -113,7 +114,8 @@ module _ (kind count : ℕ) (tables : List Table) (g : Given) where
   goes : startFine kind count tables g ≡ true → started kind count tables g ≡ onward sent
   goes e = stages ∙ guarded _ _ _ e ∙ systems-bind _ _ ∙ ap (λ (o : Outcome Sys). bind o (λ s. systems (wakeAll base 0 (first .actors) s))) filled
 
-  pub start-full : startFine kind count tables g ≡ true → (s : Sent) → s ≡ sentOf (networkOf (emptyNet (kindOf kind))) sent → isDone (s .answer) ≡ false
+  pub start-full : startFine kind count tables g ≡ true → (s : Sent) → s ≡ sentOf (networkOf (emptyNet (kindOf kind))) sent → isDone (s .answer)
+      ≡ false
       → _≡_ {A = Answered} (record { answer = s .answer; system = systemOf blank }) (answeredOf (systemOf blank) (started kind count tables g))
   unfolding bind mapped
   start-full e s f h =

@@ -38,7 +38,8 @@ run-row-requires c κs =
     let os = orders (a .row .now) (a .e .src) (a .value) in
     let cmds = take (a .limit) (frontOf (a .e .src) (Acked (a .number)) ++ asked (a .next) os) in (
       arrived-ready (a .kind) (a .e) (a .c .now) (a .used) (a .len) ((c .before .before .before .before .before .before .on-deliver) .result)
-          ((c .before .before .before .before .before .before .on-deliver) .last .0) ((c .before .before .before .before .before .before .on-deliver) .ensures) cmds
+          ((c .before .before .before .before .before .before .on-deliver) .last .0)
+          ((c .before .before .before .before .before .before .on-deliver) .ensures) cmds
           (a .timers) (a .next) (a .limit) (s .pre .0),
       s .pre .1,
       s .pre .2,
