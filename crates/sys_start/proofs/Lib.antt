@@ -1,5 +1,5 @@
-pub mod Tests
 pub mod First
-pub mod Sends
+pub mod Tests
+pub mod Fills
 pub mod Wakes
 pub mod Laws

@@ -1,14 +1,18 @@
-// The start of a system: the tests before it, the first system, the given envelopes, and the actors woken in turn.
+// The start of a system: the tests before it, the given envelopes sent into cells, and the actors woken in turn on rows.
 use answers::Answer;
 use answers::is_done;
-use link_durable::Link;
-use link_durable::fresh_durable;
 use link_inner::Table;
 use link_inner::zero_table;
-use net_network::Network;
-use net_network::Sent;
+use link_rows::RECORD;
+use link_rows::ROW;
+use link_table_rows::rows_of;
+use net_network::read_back;
+use net_rows::Sent;
 use sys_actor::Actor;
 use sys_actor::zero_actor;
+use sys_layout::actor_of;
+use sys_rows::fresh_row;
+use sys_wake::wake;
 use sys_system::System;
 use sys_system::blank;
 use sys_formed::tables_pass;
@@ -16,25 +20,27 @@ use sys_answered::Answered;
 use types::Envelope;
 use types::Id;
 use types::Kind;
+use types::LastMessage;
 use types::MOST_ACTORS;
 use types::MOST_ENTRIES;
+use types::MOST_PENDING;
 ghost use mathlib.Core.Path.{_≡_};
-ghost use mathlib.Core.List.{[]};
+ghost use mathlib.Core.Bool.{true};
 ghost use Prim.Native.Nat.{_≤_};
-ghost use lib.ListN.{take, replicate};
+ghost use lib.ListN.{length, take};
 ghost use Rattle.types.specs.Capacities.{mostActors, mostEntries};
+ghost use Rattle.types.specs.declared.LastMessage.the-variants.{Nothing};
 ghost use Rattle.lists.specs.Lists.{all, pad};
-ghost use Rattle.rules.specs.Outcome.{base};
 ghost use Rattle.rules.specs.Network.{kindOf};
-ghost use Rattle.rules.specs.System.{unstarted, systems};
 ghost use Rattle.rules.specs.WellFormed.{sourceKnown};
 ghost use Rattle.rules.specs.Start as rules;
-ghost use Rattle.net_network.specs.Views.{netView, networkOf, NetReady, sentOf};
-ghost use Rattle.sys_actor.specs.Views.{actorAs, zeroActor};
-ghost use Rattle.link_inner.specs.Views.{zeroTable};
-ghost use Rattle.sys_system.specs.Views.{sysView, systemOf};
+ghost use Rattle.net_layout.specs.Layout.{Readable};
+ghost use Rattle.net_rows.specs.Views.{NetReady};
+ghost use Rattle.net_network.specs.Parts.{readBack};
+ghost use Rattle.link_inner.specs.Views.{zeroTable, tableOk};
+ghost use Rattle.sys_system.specs.Views.{systemOf};
 ghost use Rattle.sys_answered.specs.Views.{answeredOf};
-ghost use Rattle.sys_start.specs.Views.{givenView, startFine, emptyNet, sendAll, Awaiting, started};
+ghost use Rattle.sys_start.specs.Views.{startFine, Filled, Wakes, Awaiting, wakingAll, started};
 
 // The given envelopes. A count beyond their places is refused as 10.
 pub struct Given {
@@ -99,40 +105,6 @@ fn kind_of(kind: u8) -> Kind
     }
 }
 
-fn fresh_actor() -> Actor
-    ensures { λ r. ⌜ r ≡ actorAs (unstarted []) ⌝ }
-{
-    let zero = zero_actor();
-    let timers = zero.timers;
-    let stored = zero.stored;
-    let durable = fresh_durable();
-    Actor {
-        crashed: false,
-        timers: timers,
-        link: Link {
-            durable: durable,
-            state: 0,
-        },
-        stored: stored,
-    }
-}
-
-// So many fresh ones, then zero ones.
-fn fresh_actors(count: usize) -> [Actor; MOST_ACTORS]
-    requires { ⌜ count ≤ mostActors ⌝ }
-    ensures { λ r. ⌜ r ≡ pad mostActors zeroActor (replicate count (actorAs (unstarted []))) ⌝ }
-{
-    let zero = zero_actor();
-    let fresh = fresh_actor();
-    let mut actors = [zero; MOST_ACTORS];
-    let mut i = 0;
-    while i < count {
-        actors[i] = fresh;
-        i += 1;
-    }
-    actors
-}
-
 // The first ones, then zero ones: a table at or above the count is not looked at.
 fn first_tables(tables: [Table; MOST_ACTORS], count: usize) -> [Table; MOST_ACTORS]
     requires { ⌜ count ≤ mostActors ⌝ }
@@ -150,86 +122,71 @@ fn first_tables(tables: [Table; MOST_ACTORS], count: usize) -> [Table; MOST_ACTO
 }
 
 // ---- the given envelopes: 8
-// All of them, or the first refusal with the network that came.
-fn fill(n: Network, list: [Envelope; MOST_ENTRIES], used: usize) -> Sent
-    requires { ⌜ NetReady n × (used ≤ mostEntries) ⌝ }
-    ensures { λ r. ⌜ r ≡ sentOf n (sendAll (base .room) (take used list) (netView n)) ⌝ }
+// All of them sent, or the first refusal: the cells hold those before it then.
+fn fill(
+    c: &mut [[u64; 4]; MOST_ENTRIES],
+    kind: Kind,
+    list: [Envelope; MOST_ENTRIES],
+    count: usize,
+) -> Sent
+    requires { ⌜ (length (now c) ≡ mostEntries) × (count ≤ mostEntries) ⌝ }
+    ensures { λ r. ⌜ Filled kind (take count list) r (now (c .exit)) ⌝ }
 {
-    let mut net = n;
+    let mut used: usize = 0;
+    let mut len: u64 = 0;
     let mut i = 0;
-    while i < used {
+    while i < count {
         let here = list[i];
-        let s = net_network::send(net, here);
+        let s = net_rows::send(c, kind, used, len, here);
         let answer = s.answer;
         if !is_done(answer) {
-            return Sent {
-                answer: answer,
-                network: n,
-            };
+            return s;
         }
-        let after = s.network;
-        net = after;
+        used = s.used;
+        len = s.len;
         i += 1;
     }
     Sent {
         answer: Answer::Done,
-        network: net,
+        used: used,
+        len: len,
     }
-}
-
-// The network of a kind with the given envelopes.
-fn filled(kind: u8, given: Given) -> Sent
-    requires { ⌜ given .used ≤ mostEntries ⌝ }
-    ensures { λ r. ⌜ r ≡ sentOf (networkOf (emptyNet (kindOf kind))) (sendAll (base .room) (givenView given) (emptyNet (kindOf kind))) ⌝ }
-{
-    let k = kind_of(kind);
-    let n = net_network::blank(k);
-    let list = given.list;
-    let used = given.used;
-    fill(n, list, used)
 }
 
 // ---- actors 0, 1, ... each with its commands run before the next
-// All of them, or the first refusal with the blank system.
-fn wake_all(s: System) -> Answered
-    requires { ⌜ Awaiting s ⌝ }
-    ensures { λ r. ⌜ r ≡ answeredOf (systemOf rules.blank) (systems (rules.wakeAll base 0 (sysView s .actors) (sysView s))) ⌝ }
+// The counts of the network after a wake, and the woken actor.
+struct Woken {
+    sent: Sent,
+    actor: Actor,
+}
+
+// One actor on fresh rows: nothing is stored.
+fn wake_one(
+    c: &mut [[u64; 4]; MOST_ENTRIES],
+    kind: Kind,
+    used: usize,
+    len: u64,
+    t: Table,
+    me: Id,
+) -> Woken
+    requires { ⌜ NetReady kind (now c) used len × (length (now c) ≡ mostEntries) × (tableOk t ≡ true) ⌝ }
+    ensures { λ r. ⌜ Wakes kind used t me (now (c .entry)) r (now (c .exit)) ⌝ }
 {
-    let none = blank();
-    let count = s.count;
-    let tables = s.tables;
-    let mut network = s.network;
-    let mut actors = s.actors;
-    let mut at = 0;
-    while at < count {
-        let table = tables[at];
-        let actor = actors[at];
-        let t = steps::wake(Id(at as u8), network, actor, table);
-        let answer = t.answer;
-        if !is_done(answer) {
-            return Answered {
-                answer: answer,
-                system: none,
-            };
-        }
-        let after = t.network;
-        let woken = t.actor;
-        network = after;
-        actors[at] = woken;
-        at += 1;
-    }
-    Answered {
-        answer: Answer::Done,
-        system: System {
-            count: count,
-            network: network,
-            actors: actors,
-            tables: tables,
-        },
+    let mut live = fresh_row();
+    let mut pend = [[0u64; RECORD]; MOST_PENDING];
+    let mut kept = [0u64; ROW];
+    let mut stored = [[0u64; RECORD]; MOST_PENDING];
+    let rules = rows_of(t);
+    let s = wake(
+        c, &mut live, &mut pend, &mut kept, &mut stored, &rules, t.used, kind, used, len, me,
+    );
+    let actor = actor_of(&live, &pend, &kept, &stored);
+    Woken {
+        sent: s,
+        actor: actor,
     }
 }
 
-// ---- the start
 // A refused start gives the blank system.
 fn refused(answer: Answer) -> Answered
     ensures { λ r. ⌜ r ≡ record { answer = answer; system = systemOf rules.blank } ⌝ }
@@ -241,24 +198,79 @@ fn refused(answer: Answer) -> Answered
     }
 }
 
+// The system of these actors, with the network that the used cells are.
+fn system_of(
+    c: &[[u64; 4]],
+    kind: Kind,
+    used: usize,
+    count: usize,
+    actors: [Actor; MOST_ACTORS],
+    tables: [Table; MOST_ACTORS],
+) -> System
+    requires { ⌜ Readable (now c) used × (count ≤ mostActors) ⌝ }
+    ensures { λ r. ⌜ r ≡ record { count = count; network = readBack kind (now (c .entry)) used Nothing; actors = actors;
+        tables = pad mostActors zeroTable (take count tables) } ⌝ }
+{
+    let network = read_back(kind, c, used, LastMessage::Nothing);
+    let own = first_tables(tables, count);
+    System {
+        count: count,
+        network: network,
+        actors: actors,
+        tables: own,
+    }
+}
+
+// All of them, or the first refusal with the blank system.
+fn wake_all(
+    c: &mut [[u64; 4]; MOST_ENTRIES],
+    kind: Kind,
+    from: Sent,
+    count: usize,
+    tables: [Table; MOST_ACTORS],
+) -> Answered
+    requires { ⌜ Awaiting kind (now c) (from .used) (from .len) count tables ⌝ }
+    ensures { λ r. ⌜ r ≡ answeredOf (systemOf rules.blank) (wakingAll kind (now (c .entry)) (from .used) count tables) ⌝ }
+{
+    let zero = zero_actor();
+    let mut actors = [zero; MOST_ACTORS];
+    let mut used = from.used;
+    let mut len = from.len;
+    let mut at = 0;
+    while at < count {
+        let table = tables[at];
+        let w = wake_one(c, kind, used, len, table, Id(at as u8));
+        let sent = w.sent;
+        let answer = sent.answer;
+        if !is_done(answer) {
+            return refused(answer);
+        }
+        let woken = w.actor;
+        actors[at] = woken;
+        used = sent.used;
+        len = sent.len;
+        at += 1;
+    }
+    Answered {
+        answer: Answer::Done,
+        system: system_of(c, kind, used, count, actors, tables),
+    }
+}
+
+// ---- the start
 pub fn start(kind: u8, count: usize, tables: [Table; MOST_ACTORS], given: Given) -> Answered
     ensures { λ r. ⌜ r ≡ answeredOf (systemOf rules.blank) (started kind count tables given) ⌝ }
 {
     if !startable(kind, count, tables, given) {
         return refused(Answer::StartRefused);
     }
-    let s = filled(kind, given);
+    let k = kind_of(kind);
+    let list = given.list;
+    let mut cells = [[0u64; 4]; MOST_ENTRIES];
+    let s = fill(&mut cells, k, list, given.used);
     let answer = s.answer;
     if !is_done(answer) {
         return refused(answer);
     }
-    let network = s.network;
-    let actors = fresh_actors(count);
-    let own = first_tables(tables, count);
-    wake_all(System {
-        count: count,
-        network: network,
-        actors: actors,
-        tables: own,
-    })
+    wake_all(&mut cells, k, s, count, tables)
 }

@@ -5,7 +5,7 @@ use native.Mathlib.Omega.{arith}
 use mathlib.Core.Path.{_≡_, refl, sym, ap, subst, _∙_}
 use mathlib.Core.Bool.{true, false}
 use mathlib.Core.List.{List, []}
-use lib.ListN.{length, take, getD, length-map}
+use lib.ListN.{length, take, length-map}
 use lib.Seq.{length-take-le}
 use Rattle.types.specs.Capacities.{mostEntries}
 use Rattle.lists.specs.Lists.{choose}
@@ -23,7 +23,6 @@ use Rattle.rules.specs.Outcome.{Outcome, done, refused, Caps, base}
 use Rattle.rules.specs.Network.{Net, isDuplicating, len}
 use Rattle.rules.specs.System.{Sys, systems, act}
 use Rattle.rules.specs.System as rules
-use Rattle.link_timers.proofs.Listed.{listed-timers}
 use Rattle.net_cells.specs.Cells.{entryOf}
 use Rattle.net_layout.specs.Layout.{LaidOut, Readable}
 use Rattle.net_rows.specs.declared.Sent.{Sent}
@@ -39,11 +38,10 @@ use Rattle.link_inner.specs.declared.Table.{Table}
 use Rattle.link_inner.specs.Views.{rulesOf}
 use Rattle.sys_actor.specs.declared.Actor.{Actor}
 use Rattle.sys_actor.specs.Views.{actorView, actorAs, ActorLaid}
-use Rattle.sys_actor.proofs.Laws.{actor-back}
 use Rattle.sys_seat.specs.Seat.{Around, holding}
 use Rattle.sys_reacts.specs.Views.{lastAfter}
-use Rattle.sys_rows.specs.Rows.{actorOf}
 use Rattle.sys_layout.specs.Views as actor
+use Rattle.sys_layout.proofs.Back.{no-rules, read-actor, read-laid}
 use Rattle.sys_moves.specs.Views.{Rows, rowsOf, actorAt, sysAt, capsOf, Fine, Stepped, lastThen}
 use Rattle.sys_act.specs.Seats.{seatOf}
 use Rattle.sys_system.specs.Views.{seated}
@@ -61,24 +59,6 @@ pub delivered-last : (k : Kind) (l : LastMessage) {a : Action} {e : Envelope} {r
     → r ≡ lastThen k a l
 unfolding lastThen
 delivered-last k l {a} {e} {r} d f = f ∙ same-last k e l ∙ rw d
-
--- ---- an actor's rows, laid back
-module _ (rs : List Rule) (x : Rows) where
-  abbrev own : rules.Actor
-  own = actorAt rs x
-
-  -- The struct does not hold the rules.
-  pub no-rules : actorAs (actorAt [] x) ≡ actorAs own
-  unfolding actorOf
-  no-rules = refl
-
-  pub read-actor : actorView rs (actorAs own) ≡ own
-  unfolding actorOf
-  read-actor = unfold actorOf in actor-back own (listed-timers (getD (x .live) 6 0))
-
-  pub read-laid : ActorLaid (actorAs own)
-  unfolding actorOf
-  read-laid = unfold actorOf in ap actorAs (sym (actor-back (actorAt [] x) (listed-timers (getD (x .live) 6 0))))
 
 -- ---- the cells, laid back
 module _ {kind : Kind} {used n : ℕ} {x : Rows} (fine : Fine kind used n x) (last : LastMessage) where
@@ -137,19 +117,20 @@ module _ (count : ℕ) (n : Network) (b : Actor) (t : Table) (ready : NetReady n
       network-is = net ∙ read-is (step .fine .net) (step .fine .room) last
 
       actor-is : z .actor ≡ actorAs (actorAt rs y)
-      actor-is = own ∙ no-rules rs y
+      actor-is = own ∙ no-rules rs (y .live) (y .pend) (y .kept) (y .stored)
 
       left : (hall : Around me)
           → sysAt me hall (n .kind) last (r .used) rs y ≡ holding me hall (netView (z .network)) (seated t (z .actor))
       left hall =
           let e = sym (ap netView network-is ∙ read-net (step .fine) last) in
-          let f = sym (ap (seated t) actor-is ∙ ap (λ (l : List Rule). actorView l (actorAs (actorAt rs y))) (sym same) ∙ read-actor rs y) in
+          let f = sym (ap (seated t) actor-is ∙ ap (λ (l : List Rule). actorView l (actorAs (actorAt rs y))) (sym same)
+          ∙ read-actor rs (y .live) (y .pend) (y .kept) (y .stored)) in
           λ i. holding me hall (e i) (f i)
 
       pub touches : Touches count a n b t z
       touches = record {
         network = subst NetLaid (sym network-is) (net-laid (step .fine) last);
-        actor = subst ActorLaid (sym actor-is) (read-laid rs y);
+        actor = subst ActorLaid (sym actor-is) (read-laid rs (y .live) (y .pend) (y .kept) (y .stored));
         runs = λ h hall many. acts hall ∙ step .runs (sym (ap isDone answer) ∙ h) hall many (n .last) ∙ ap done (left hall);
         stops = λ h hall many. acts hall ∙ step .stops (sym (ap isDone answer) ∙ h) hall many (n .last)
             ∙ ap (λ (v : Answer). refused (answerNumber v)) (sym answer);

@@ -9,19 +9,19 @@ use lib.ListN.{length}
 use borrow.Author.Tests.{not-true, not-false}
 use Rattle.types.specs.Capacities.{mostEntries}
 use Rattle.lists.proofs.Places.{length-mapped}
-use Rattle.net_network.specs.Views.{zeroEntry}
-use Rattle.sys_start.proofs.Sends.{Filling, fill-begins, fill-stops, fill-goes, fill-ends}
+use Rattle.net_cells.specs.Cells.{zeroEntry}
+use Rattle.sys_start.proofs.Fills.{Filling, fill-begins, fill-stops, fill-goes, fill-ends}
 use Rattle.sys_start.proofs.fill.Statement.{statement}
 use Rattle.sys_start.proofs.fill.Tie as tie
 
 abbrev Inv-loop : tie.InvT-loop
-Inv-loop n used list net₀ i₀ net i = (i ≤ used) × (length list ≡ mostEntries) × Filling n list used i net
+Inv-loop c₀ kind count list used₀ len₀ i₀ c used len i = (i ≤ count) × (length list ≡ mostEntries) × Filling kind list count c used len i
 
 abbrev μ-loop : tie.MeasureT-loop
-μ-loop n used list net₀ i₀ net i = used - i
+μ-loop c₀ kind count list used₀ len₀ i₀ c used len i = count - i
 
 loop-holds : tie.Need-loop-holds Inv-loop μ-loop
-loop-holds c = (search needs, search (needs, length-mapped), fill-begins _ _ _ (c .pre .0))
+loop-holds c = (search needs, search (needs, length-mapped), fill-begins _ _ _ _ (c .pre .0))
 
 mul-here : tie.Need-mul-here Inv-loop μ-loop
 mul-here c = search needs
@@ -30,20 +30,21 @@ array-copy-out-here : tie.Need-array-copy-out-here Inv-loop μ-loop
 array-copy-out-here c = search needs
 
 send-requires : tie.Need-send-requires Inv-loop μ-loop
-send-requires c κs = c .before .before .loop .inv .2 .ready
+send-requires c κs = c .before .before .before .loop .inv .2 .net
 
 is-done-requires : tie.Need-is-done-requires Inv-loop μ-loop
 is-done-requires c κs = search needs
 
 returns : tie.Need-returns Inv-loop μ-loop
 returns c =
-    let s = c .before .before .before .before .before .before in
-    let l = c .before .before .before .before .before .loop in
+    let t = c .before .before in
+    let l = t .before .before .before .before .loop in
+    let s = t .before .before .before .before .before in
     let b = l .inv .1 in
     let u = s .pre .1 in
-    fill-stops (s .args .n) (s .args .t2) (s .args .used) (l .i) (l .net) (l .inv .2) (c .before .before .before .before .loop-test .taken) (omega arith)
-    (zeroEntry .envelope)
-    (c .before .before .send .result) (c .before .before .send .ensures) (sym (c .before .is-done .ensures) ∙ not-true _ (c .if1 .taken))
+    fill-stops (s .args .kind) (s .args .t3) (s .args .count) (l .c) (l .used) (l .len) (l .i) (l .inv .2) (t .before .before .before .loop-test .taken)
+    (omega arith) (zeroEntry .envelope) (t .send .result) (t .send .last .0) (t .send .ensures)
+    (sym (c .before .is-done .ensures) ∙ not-true _ (c .if1 .taken))
 
 add-i : tie.Need-add-i Inv-loop μ-loop
 add-i c = search needs
@@ -53,24 +54,25 @@ loop-less c = search needs
 
 loop-again : tie.Need-loop-again Inv-loop μ-loop
 loop-again c =
-    let s = c .before .before .before .before .before .before .before in
-    let l = c .before .before .before .before .before .before .loop in
+    let t = c .before .before in
+    let l = t .before .before .before .before .loop in
+    let s = t .before .before .before .before .before in
     let b = l .inv .1 in
     let u = s .pre .1 in (
       search needs,
       b,
-      rw add-one (fill-goes (s .args .n) (s .args .t2) (s .args .used) (l .i) (l .net) (l .inv .2)
-          (c .before .before .before .before .before .loop-test .taken) (omega arith) (zeroEntry .envelope)
-          (c .before .before .before .send .result) (c .before .before .before .send .ensures)
-          (sym (c .before .before .is-done .ensures) ∙ not-false _ (c .before .if1 .left))),
+      rw add-one (fill-goes (s .args .kind) (s .args .t3) (s .args .count) (l .c) (l .used) (l .len) (l .i) (l .inv .2)
+          (t .before .before .before .loop-test .taken) (omega arith) (zeroEntry .envelope) (t .send .result) (t .send .last .0) (t .send .ensures)
+          (sym (c .before .is-done .ensures) ∙ not-false _ (c .if1 .left))),
     )
 
 returns-2 : tie.Need-returns-2 Inv-loop μ-loop
 returns-2 c =
     let s = c .before .before in
     let l = c .before .loop in
-    let e : l .i ≡ s .args .used = omega arith in
-    fill-ends (s .args .n) (s .args .t2) (s .args .used) (l .net) (subst (λ j. Filling (s .args .n) (s .args .t2) (s .args .used) j (l .net)) e (l .inv .2))
+    let e : l .i ≡ s .args .count = omega arith in
+    fill-ends (s .args .kind) (s .args .t3) (s .args .count) (l .c) (l .used) (l .len)
+    (subst (λ j. Filling (s .args .kind) (s .args .t3) (s .args .count) (l .c) (l .used) (l .len) j) e (l .inv .2))
 
 pub fill-spec : {M : Type 1} → statement M
 fill-spec =

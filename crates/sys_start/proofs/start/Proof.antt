@@ -1,6 +1,6 @@
 -- `start` meets its contract: its stages are those of the rules.
 -- Assumes nothing.
-use mathlib.Core.Path.{sym, ap, _∙_}
+use mathlib.Core.Path.{refl, sym, ap, _∙_}
 use borrow.Author.Tests.{not-true, not-false}
 use borrow.Author.Needs.{needs}
 use Rattle.types.specs.Capacities.{mostActors}
@@ -9,8 +9,8 @@ use Rattle.rules.specs.Start.{blank}
 use Rattle.sys_system.specs.Views.{systemOf}
 use Rattle.sys_answered.specs.Views.{answeredOf}
 use Rattle.sys_start.proofs.Tests.{fine-of}
-use Rattle.sys_start.proofs.First.{tables-say}
-use Rattle.sys_start.proofs.Laws.{start-refused, start-full, made-awaits, made-wakes}
+use Rattle.sys_start.proofs.First.{tables-say, tables-laid}
+use Rattle.sys_start.proofs.Laws.{start-refused, start-full, start-wakes}
 use Rattle.sys_start.proofs.start.Statement.{statement}
 use Rattle.sys_start.proofs.start.Tie as tie
 
@@ -27,12 +27,19 @@ returns c =
     c .refused .ensures ∙ sym (ap (answeredOf (systemOf blank)) (start-refused (a .kind) (a .count) (a .tables) (a .given)
     (sym (c .before .before .startable .ensures) ∙ not-true _ (c .before .if1 .taken))))
 
-filled-requires : tie.Need-filled-requires
-filled-requires c κs =
-    let s = c .before .before in
+kind-of-requires : tie.Need-kind-of-requires
+kind-of-requires c κs = search needs
+
+fill-requires : tie.Need-fill-requires
+fill-requires c κs =
+    let b = c .before .before .before in
+    let s = b .before .before in
     let a = s .args in
-    fine-of (a .kind) (a .count) (a .tables) (a .given) (tables-say mostActors (a .tables) _ (s .good .1 .1 .0) .0)
-    (sym (c .before .startable .ensures) ∙ not-false _ (c .if1 .left)) .held
+    (
+      refl,
+      fine-of (a .kind) (a .count) (a .tables) (a .given) (tables-say mostActors (a .tables) _ (s .good .1 .1 .0) .0)
+          (sym (b .before .startable .ensures) ∙ not-false _ (b .if1 .left)) .held,
+    )
 
 is-done-requires : tie.Need-is-done-requires
 is-done-requires c κs = search needs
@@ -42,52 +49,39 @@ refused-requires-2 c κs = search needs
 
 returns-2 : tie.Need-returns-2
 returns-2 c =
-    let b = c .before .before .before .before in
+    let f = c .before .before .before in
+    let b = f .before .before .before .before in
     let a = b .before .before .args in
-    let s = c .before .before .before .filled in
     c .refused2 .ensures
-    ∙ start-full (a .kind) (a .count) (a .tables) (a .given) (sym (b .before .startable .ensures) ∙ not-false _ (b .if1 .left))
-    (s .result) (s .ensures) (sym (c .before .before .is-done .ensures) ∙ not-true _ (c .before .if2 .taken))
-
-fresh-actors-requires : tie.Need-fresh-actors-requires
-fresh-actors-requires c κs =
-    let b = c .before .before .before .before in
-    let s = b .before .before in
-    let a = s .args in
-    fine-of (a .kind) (a .count) (a .tables) (a .given) (tables-say mostActors (a .tables) _ (s .good .1 .1 .0) .0)
-    (sym (b .before .startable .ensures) ∙ not-false _ (b .if1 .left)) .few
-
-first-tables-requires : tie.Need-first-tables-requires
-first-tables-requires c κs =
-    let b = c .before .before .before .before .before in
-    let s = b .before .before in
-    let a = s .args in
-    fine-of (a .kind) (a .count) (a .tables) (a .given) (tables-say mostActors (a .tables) _ (s .good .1 .1 .0) .0)
-    (sym (b .before .startable .ensures) ∙ not-false _ (b .if1 .left)) .few
+    ∙ start-full (a .kind) (a .count) (a .tables) (a .given) (f .before .before .before .kind-of .result) (f .before .before .before .kind-of .ensures)
+    (sym (b .before .startable .ensures) ∙ not-false _ (b .if1 .left)) (f .fill .result) (f .fill .last .0) (f .fill .ensures)
+    (sym (c .before .before .is-done .ensures) ∙ not-true _ (c .before .if2 .taken))
 
 wake-all-requires : tie.Need-wake-all-requires
 wake-all-requires c κs =
-    let b = c .before .before .before .before .before .before in
+    let f = c .before .before .before in
+    let b = f .before .before .before .before in
     let s = b .before .before in
     let a = s .args in
     let y = tables-say mostActors (a .tables) _ (s .good .1 .1 .0) in
-    let n = c .before .before .before .before .before .filled in
-    made-awaits (a .kind) (a .count) (a .tables) (a .given) (y .0) (y .1) (sym (b .before .startable .ensures) ∙ not-false _ (b .if1 .left))
-    (n .result) (n .ensures) (sym (c .before .before .before .before .is-done .ensures) ∙ not-false _ (c .before .before .before .if2 .left))
-    (c .before .fresh-actors .result) (c .first-tables .result) (c .before .fresh-actors .ensures) (c .first-tables .ensures)
+    let e = fine-of (a .kind) (a .count) (a .tables) (a .given) (y .0) (sym (b .before .startable .ensures) ∙ not-false _ (b .if1 .left)) in
+    record {
+      net = f .fill .ensures .net;
+      room = f .fill .ensures .room;
+      few = e .few;
+      fine = e .tables-ok;
+      laid = tables-laid (a .count) (a .tables) (y .1) (e .tables-ok);
+    }
 
 returns-3 : tie.Need-returns-3
 returns-3 c =
-    let b = c .before .before .before .before .before .before .before in
-    let s = b .before .before in
-    let a = s .args in
-    let y = tables-say mostActors (a .tables) _ (s .good .1 .1 .0) in
-    let n = c .before .before .before .before .before .before .filled in
-    c .wake-all .ensures
-    ∙ ap (answeredOf (systemOf blank)) (made-wakes (a .kind) (a .count) (a .tables) (a .given) (y .0) (y .1)
-    (sym (b .before .startable .ensures) ∙ not-false _ (b .if1 .left))
-    (n .result) (n .ensures) (sym (c .before .before .before .before .before .is-done .ensures) ∙ not-false _ (c .before .before .before .before .if2 .left))
-    (c .before .before .fresh-actors .result) (c .before .first-tables .result) (c .before .before .fresh-actors .ensures) (c .before .first-tables .ensures))
+    let f = c .before .before .before .before in
+    let b = f .before .before .before .before in
+    let a = b .before .before .args in
+    c .wake-all .ensures ∙ ap (answeredOf (systemOf blank))
+    (start-wakes (a .kind) (a .count) (a .tables) (a .given) (f .before .before .before .kind-of .result) (f .before .before .before .kind-of .ensures)
+    (sym (b .before .startable .ensures) ∙ not-false _ (b .if1 .left)) (f .fill .result) (f .fill .last .0) (f .fill .ensures)
+    (sym (c .before .before .before .is-done .ensures) ∙ not-false _ (c .before .before .if2 .left)))
 
 pub start-spec : {M : Type 1} → statement M
 start-spec =
@@ -96,11 +90,10 @@ start-spec =
     startable-requires
     refused-requires
     returns
-    filled-requires
+    kind-of-requires
+    fill-requires
     is-done-requires
     refused-requires-2
     returns-2
-    fresh-actors-requires
-    first-tables-requires
     wake-all-requires
     returns-3)
