@@ -1,10 +1,10 @@
 // The start of what a script's opening says.
 use answers::Answer;
 use script_opening::read_opening;
-use sys_system::blank;
 use sys_answered::Answered;
 use sys_start::Given;
 use sys_start::start;
+use sys_system::blank;
 ghost use mathlib.Core.Path.{_≡_};
 ghost use Rattle.layout.specs.Read.{badAt};
 ghost use Rattle.rules.specs.Script.{versions, openingFrom};

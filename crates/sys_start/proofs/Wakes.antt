@@ -150,7 +150,13 @@ module _ (k : Kind) (cs₀ : List (List ℕ)) (used₀ n₀ count : ℕ) (tables
 
   pub wakes-begin : (actors : List Actor) → actors ≡ pad mostActors zeroActor [] → Along cs₀ used₀ n₀ actors 0
   wakes-begin actors e = record {
-    bs = []; many = refl; net = a .net; room = a .room; structs = e; owns = refl; same = refl;
+    bs = [];
+    many = refl;
+    net = a .net;
+    room = a .room;
+    structs = e;
+    owns = refl;
+    same = refl;
   }
 
   counted : length (take count tables) ≡ count
@@ -265,7 +271,7 @@ module _ (k : Kind) (cs₀ : List (List ℕ)) (used₀ n₀ count : ℕ) (tables
     ends =
         let m = asleep-many in
         g .same ∙ ap (λ (l : List rules.Actor). systems (wakeAll base i l (sysOn k cs used (g .bs ++ l))))
-            (drop-of-length-le all-asleep {i = i} (omega arith))
+        (drop-of-length-le all-asleep {i = i} (omega arith))
         ∙ ap (λ (l : List rules.Actor). done (sysOn k cs used l)) (append-nil (g .bs))
 
     whole-is : whole ≡ systemOf (sysOn k cs used (g .bs))

@@ -10,13 +10,13 @@ use net_network::read_back;
 use net_rows::Sent;
 use sys_actor::Actor;
 use sys_actor::zero_actor;
+use sys_answered::Answered;
+use sys_formed::tables_pass;
 use sys_layout::actor_of;
 use sys_rows::fresh_row;
-use sys_wake::wake;
 use sys_system::System;
 use sys_system::blank;
-use sys_formed::tables_pass;
-use sys_answered::Answered;
+use sys_wake::wake;
 use types::Envelope;
 use types::Id;
 use types::Kind;
@@ -178,7 +178,17 @@ fn wake_one(
     let mut stored = [[0u64; RECORD]; MOST_PENDING];
     let rules = rows_of(t);
     let s = wake(
-        c, &mut live, &mut pend, &mut kept, &mut stored, &rules, t.used, kind, used, len, me,
+        c,
+        &mut live,
+        &mut pend,
+        &mut kept,
+        &mut stored,
+        &rules,
+        t.used,
+        kind,
+        used,
+        len,
+        me,
     );
     let actor = actor_of(&live, &pend, &kept, &stored);
     Woken {
@@ -208,8 +218,12 @@ fn system_of(
     tables: [Table; MOST_ACTORS],
 ) -> System
     requires { ⌜ Readable (now c) used × (count ≤ mostActors) ⌝ }
-    ensures { λ r. ⌜ r ≡ record { count = count; network = readBack kind (now (c .entry)) used Nothing; actors = actors;
-        tables = pad mostActors zeroTable (take count tables) } ⌝ }
+    ensures { λ r. ⌜ r ≡ record {
+      count = count;
+      network = readBack kind (now (c .entry)) used Nothing;
+      actors = actors;
+      tables = pad mostActors zeroTable (take count tables);
+    } ⌝ }
 {
     let network = read_back(kind, c, used, LastMessage::Nothing);
     let own = first_tables(tables, count);

@@ -4,8 +4,8 @@
 use answers::number_of;
 use libc::STDIN_FILENO;
 use libc::STDOUT_FILENO;
-use sys_system::System;
 use sys_step::step;
+use sys_system::System;
 use test_dump::SIZE;
 use test_dump::dump;
 use test_ill_formed_ways::made;

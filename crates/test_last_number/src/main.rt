@@ -2,9 +2,9 @@
 // system is made by hand: actor 0 has its last number left, sends 9 to actor 1 at every message, and has two on the way.
 use answers::number_of;
 use libc::STDOUT_FILENO;
-use sys_system::System;
 use sys_answered::Answered;
 use sys_step::step;
+use sys_system::System;
 use test_ill_formed_ways::made;
 use types::Action;
 use types::Envelope;

@@ -34,8 +34,7 @@ fill-requires : tie.Need-fill-requires
 fill-requires c κs =
     let b = c .before .before .before in
     let s = b .before .before in
-    let a = s .args in
-    (
+    let a = s .args in (
       refl,
       fine-of (a .kind) (a .count) (a .tables) (a .given) (tables-say mostActors (a .tables) _ (s .good .1 .1 .0) .0)
           (sym (b .before .startable .ensures) ∙ not-false _ (b .if1 .left)) .held,

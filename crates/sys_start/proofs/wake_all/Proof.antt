@@ -46,8 +46,7 @@ cast-t23 c = search needs
 wake-one-requires : tie.Need-wake-one-requires Inv-loop μ-loop
 wake-one-requires c κs =
     let l = c .before .before .before .loop in
-    let s = c .before .before .before .before .before in
-    (
+    let s = c .before .before .before .before .before in (
       l .inv .4 .net,
       l .inv .4 .room,
       table-fine _ _ _ _ _ _ (s .pre) (l .inv .2) (l .c) (l .used) (l .len) (l .actors) (l .at) (l .inv .4) (c .before .before .loop-test .taken) no-table,

@@ -21,8 +21,7 @@ rows-of-requires c κs = search needs
 wake-requires : tie.Need-wake-requires
 wake-requires c κs =
     let t = c .before .before .before .before .before .before in
-    let s = t .before .before in
-    (
+    let s = t .before .before in (
       rw (t .before .fresh-row .ensures) (fresh-fine (s .args .kind) (s .args .used) (s .args .len) (s .args .c .now) _ _ (s .pre .0) (s .pre .1)
           refl refl),
       t .rows-of .ensures .1,
