@@ -1,4 +1,4 @@
-// What a step or a start answers, and how a part of a system is put back in its struct: laws in proofs/.
+// What a step or a start answers.
 use answers::Answer;
 use sys_system::System;
 
