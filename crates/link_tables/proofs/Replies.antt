@@ -17,7 +17,7 @@ use Rattle.types.specs.declared.Storage.{Storage}
 use Rattle.types.specs.declared.Storage.the-variants.{Nothing, Value}
 use Rattle.types.specs.declared.InnerCommand.{InnerCommand}
 use Rattle.rules.specs.Inner.{Reply, matches, decided, reply, atStart, ignored, nobody}
-use Rattle.link_tables.specs.Rows.{mark, ruleIn, orders, replied, RowLaid, TableLaid, rulesIn, firstOf, startEvent, startValue}
+use Rattle.link_tables.specs.Rows.{mark, ruleIn, orders, replied, RowLaid, TableLaid, rulesIn, firstOf, decidingOf, startEvent, startValue}
 use Rattle.link_tables.proofs.Told.{row-decides, orders-count}
 
 -- ---- a row that neither touches nor commands ignores the event
@@ -80,6 +80,43 @@ module _ (event state : ℕ) (source : Id) (value : ℕ) where
     pub none-ignored : used ≤ at → ignored (reply (rulesIn t used) event state source value) ≡ true
     unfolding ignored any
     none-ignored h = ap ignored (none-replies h)
+
+    -- So the place that `deciding` gives is that of a rule that does not ignore the event, or the count.
+    pub none-decides : used ≤ at → used ≡ decidingOf event state source value t used
+    unfolding choose
+    none-decides h = rw (none-ignored h)
+
+    pub one-ignores : at < used → ignored (replied (getD t at []) source value) ≡ true → used ≡ decidingOf event state source value t used
+    unfolding choose
+    one-ignores h i = rw (row-replies h, i)
+
+    pub one-decides : at < used → ignored (replied (getD t at []) source value) ≡ false → at ≡ decidingOf event state source value t used
+    unfolding choose
+    one-decides h i = e ∙ rw (row-replies h, i)
+
+  -- What that place says.
+  module _ (t : List (List ℕ)) (used at : ℕ) (laid : TableLaid t used) (e : at ≡ decidingOf event state source value t used) where
+    abbrev says : Reply
+    says = reply (rulesIn t used) event state source value
+
+    found : (b : Bool) → ignored says ≡ b → at < used → (ignored says ≡ false) × (at ≡ firstOf event state value (rulesIn t used))
+    unfolding choose
+    found true i h = let z : at ≡ used = e ∙ rw i in absurd (omega arith)
+    found false i h = (i, e ∙ rw i)
+
+    pub place-counts : at < used → ignored says ≡ false
+    place-counts h = found _ refl h .0
+
+    pub place-replies : at < used → says ≡ replied (getD t at []) source value
+    place-replies h = row-replies t used at laid (found _ refl h .1) h
+
+    pub place-idle : used ≤ at → ignored says ≡ true
+    unfolding choose
+    place-idle h = go (ignored says) refl
+      where
+        go : (b : Bool) → ignored says ≡ b → ignored says ≡ true
+        go true i = i
+        go false i = none-ignored t used at laid (e ∙ rw i) h
 
 -- ---- a start is an event in state 0
 module _ (saved : Storage) (t : List (List ℕ)) (used at : ℕ) (laid : TableLaid t used)

@@ -13,7 +13,7 @@ ghost use Rattle.lists.specs.Lists.{choose};
 ghost use Rattle.types.specs.Capacities.{mostCommands};
 ghost use Rattle.types.specs.declared.Id.{Id};
 ghost use Rattle.rules.specs.Inner.{told, ignored};
-ghost use Rattle.link_tables.specs.Rows.{mark, commandIn, orderAt, replied, RowLaid, rulesIn, firstOf};
+ghost use Rattle.link_tables.specs.Rows.{mark, commandIn, orderAt, replied, RowLaid, TableLaid, rulesIn, firstOf, decidingOf};
 
 // Of a row's first three words.
 fn hits(head: u64, low: u64, high: u64, key: u64, value: u64) -> bool
@@ -103,6 +103,21 @@ pub fn is_ignored(r: &[u64]) -> bool
         return false;
     }
     r[5] == 0
+}
+
+// The place of the rule that decides on an event; the count of rules where none matches, or the first that does ignores it.
+pub fn deciding(t: &[[u64; 16]], rules: usize, event: u64, state: u64, value: u64) -> usize
+    requires { ⌜ TableLaid (now t) rules × (event < 4) × (state < 16) ⌝ }
+    ensures { λ r. ⌜ ((source : Id) → r ≡ decidingOf event state source value (now (t .entry)) rules) ⌝ }
+{
+    let at = first_match(t, rules, event, state, value);
+    if rules <= at {
+        return rules;
+    }
+    if is_ignored(&t[at]) {
+        return rules;
+    }
+    at
 }
 
 // The state that a rule leads to: an untouched one stays.

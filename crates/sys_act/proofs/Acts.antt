@@ -8,7 +8,7 @@ use mathlib.Core.Bool.{Bool, true, false, _||_}
 use mathlib.Core.List.{List}
 use lib.ListN.{length}
 use lib.Dec.{ltb}
-use borrow.Author.Tests.{ltb-true, ltb-false, lt-ltb, le-ltb}
+use borrow.Author.Tests.{ltb-false, lt-ltb, le-ltb}
 use Rattle.lists.specs.Lists.{choose}
 use Rattle.types.specs.declared.Id.{Id}
 use Rattle.types.specs.declared.Kind.{Kind}
@@ -48,10 +48,6 @@ seat-none n a i e h = subst (λ (j : Id). ltb (j .0) n ≡ false → 0 ≡ seat 
 seat-is : (count : ℕ) (a : Action) → ltb (target a .0) count ≡ true → seatOf count a ≡ target a
 unfolding seat choose
 seat-is count a h = rw h
-
--- It is there.
-pub below : (count : ℕ) (a b : Action) → a ≡ b → ltb (target a .0) count ≡ true → target b .0 < count
-below count a b e h = ltb-true (target b .0) count (ap (λ (z : Action). ltb (target z .0) count) (sym e) ∙ h)
 
 module _ (count : ℕ) (rs : List Rule) (kind : Kind) (used n : ℕ) (x : Rows) where
   -- The one at its seat is the one that it names.

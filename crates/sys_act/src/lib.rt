@@ -164,7 +164,6 @@ pub fn act(
                 kind,
                 used,
                 len,
-                count,
                 j,
                 timer,
             )
@@ -191,7 +190,6 @@ pub fn act(
                 kind,
                 used,
                 len,
-                count,
                 j,
             )
         }

@@ -27,8 +27,8 @@ use Rattle.rules.specs.Link.{lastTaken}
 use Rattle.rules.specs.System.{Sys, systems, act}
 use Rattle.net_rows.specs.declared.Sent.{Sent}
 use Rattle.net_rows.specs.Views.{netOf}
-use Rattle.link_tables.specs.Rows.{mark, orders, replied, TableLaid, rulesIn, firstOf}
-use Rattle.link_tables.proofs.Replies.{row-replies, none-ignored}
+use Rattle.link_tables.specs.Rows.{mark, orders, replied, TableLaid, rulesIn, decidingOf}
+use Rattle.link_tables.proofs.Replies.{place-counts, place-replies, place-idle}
 use Rattle.link_rows.specs.Rows.{durableIn}
 use Rattle.sys_seat.specs.Seat.{Around}
 use Rattle.sys_seat.proofs.Actions.{seat-deliver}
@@ -36,48 +36,50 @@ use Rattle.sys_reacts.specs.Views.{lastAfter}
 use Rattle.sys_rows.specs.Rows.{actorOf}
 use Rattle.sys_moves.specs.Views.{Rows, actorAt, sysAt, capsOf, ackedIn, passedBy, takenIn, Fine, Acted, Ended, Stepped, lastThen}
 use Rattle.sys_moves.proofs.Ends.{ended-by, ended-refused}
-use Rattle.sys_deliver.specs.Views.{handedTo, onlyAcked, Chosen}
+use Rattle.sys_deliver.specs.Views.{handedTo, onlyAcked, takerOf}
 use Rattle.sys_deliver.proofs.Heard.{last-is, ack-is, passed-is, taken-is}
 
-or-true : (b : Bool) → (b || true) ≡ true
-or-true true = refl
-or-true false = refl
-
 -- ---- the rule
-module _ (number last : ℕ) (t : List (List ℕ)) (rules state : ℕ) (source : Id) (payload : ℕ) where
-  only : onlyAcked number last (rulesIn t rules) state source payload ≡ true → Chosen number last t rules state source payload rules
-  only e = record { found = λ h. absurd (omega arith); takes = λ h. absurd (omega arith); acks = λ h. e }
-
+module _ (number last state : ℕ) (source : Id) (payload : ℕ) (t : List (List ℕ)) (rules : ℕ) where
   -- Not newer.
-  pub chosen-old : number ≤ last → Chosen number last t rules state source payload rules
-  chosen-old h = only (rw (le-leb number last h))
+  pub taker-old : number ≤ last → rules ≡ takerOf number last state source payload t rules
+  unfolding choose
+  taker-old h = rw (le-leb number last h)
 
-  module _ (laid : TableLaid t rules) (at : ℕ) (first : at ≡ firstOf 2 state payload (rulesIn t rules)) where
-    ignores : ignored (reply (rulesIn t rules) 2 state source payload) ≡ true → Chosen number last t rules state source payload rules
-    ignores e = only (ap (λ (b : Bool). leb number last || b) e ∙ or-true (leb number last))
+  pub taker-new : last < number → (at : ℕ) → at ≡ decidingOf 2 state source payload t rules → at ≡ takerOf number last state source payload t rules
+  unfolding choose
+  taker-new h at e = e ∙ rw (lt-leb number last h)
 
-    -- No rule matches, or the one that does ignores it.
-    pub chosen-none : rules ≤ at → Chosen number last t rules state source payload rules
-    chosen-none h = ignores (none-ignored 2 state source payload t rules at laid first h)
+  module _ (laid : TableLaid t rules) (at : ℕ) (chosen : at ≡ takerOf number last state source payload t rules) where
+    abbrev acked : Bool → Bool
+    acked b = b || ignored (reply (rulesIn t rules) 2 state source payload)
 
-    pub chosen-ignored : at < rules → ignored (replied (getD t at []) source payload) ≡ true → Chosen number last t rules state source payload rules
-    chosen-ignored h e = ignores (ap ignored (row-replies 2 state source payload t rules at laid first h) ∙ e)
+    by : (b : Bool) → leb number last ≡ b → at ≡ choose b rules (decidingOf 2 state source payload t rules)
+    by b q = chosen ∙ rw q
 
-    -- A rule takes it.
-    pub chosen-takes : last < number → at < rules → ignored (replied (getD t at []) source payload) ≡ false
-        → Chosen number last t rules state source payload at
-    chosen-takes n h e = record {
-      found = λ g. first;
-      takes = λ g.
-          ap (λ (b : Bool). b || ignored (reply (rulesIn t rules) 2 state source payload)) (lt-leb number last n)
-          ∙ ap ignored (row-replies 2 state source payload t rules at laid first h) ∙ e;
-      acks = λ g. absurd (omega arith);
-    }
+    pub only-acked : rules ≤ at → onlyAcked number last (rulesIn t rules) state source payload ≡ true
+    unfolding choose
+    only-acked h = go (leb number last) refl
+      where
+        go : (b : Bool) → leb number last ≡ b → acked b ≡ true
+        go true q = refl
+        go false q = place-idle 2 state source payload t rules at laid (by false q) h
+
+    pub takes : at < rules → (onlyAcked number last (rulesIn t rules) state source payload ≡ false)
+        × (reply (rulesIn t rules) 2 state source payload ≡ replied (getD t at []) source payload)
+    unfolding choose
+    takes h = go (leb number last) refl
+      where
+        go : (b : Bool) → leb number last ≡ b → (acked b ≡ false) × (reply (rulesIn t rules) 2 state source payload ≡ replied (getD t at []) source payload)
+        go true q = let z : at ≡ rules = by true q in absurd (omega arith)
+        go false q =
+            (place-counts 2 state source payload t rules at laid (by false q) h, place-replies 2 state source payload t rules at laid (by false q) h)
 
 -- ---- the step
 module _ (kind : Kind) (e : Envelope) (v : Number) (y : Payload) (used n : ℕ) (x : Rows) (fine : Fine kind used n x) (few : e .src .0 < mostActors)
     (t : List (List ℕ)) (rules : ℕ) (laid : TableLaid t rules) (at : ℕ)
-    (chosen : Chosen (v .0) (getD (x .live) (8 + e .src .0) 0) t rules (getD (x .live) 7 0) (e .src) (y .0) at) (r : Sent) (x' : Rows) (count : ℕ) where
+    (chosen : at ≡ takerOf (v .0) (getD (x .live) (8 + e .src .0) 0) (getD (x .live) 7 0) (e .src) (y .0) t rules)
+    (r : Sent) (x' : Rows) (count : ℕ) where
   abbrev rs : List Rule
   rs = rulesIn t rules
 
@@ -89,14 +91,15 @@ module _ (kind : Kind) (e : Envelope) (v : Number) (y : Payload) (used n : ℕ) 
   pub heard-passed : rules ≤ at → Acted (e .dst) (passedBy kind e v used x) (lastAfter kind e) kind used n x r x'
       → Ended (e .dst) count rs (handedTo kind e (Deliver v y) used x rs) (lastAfter kind e) kind used n x r x'
   heard-passed h a = ended-by (e .dst) count rs (handedTo kind e (Deliver v y) used x rs) (lastAfter kind e) kind used n x _ r x' a
-      (λ hall size last. passed-is kind e used x rs hall last v y (here true (chosen .acks h)))
+      (λ hall size last. passed-is kind e used x rs hall last v y (here true (only-acked (v .0) _ _ (e .src) (y .0) t rules laid at chosen h)))
 
   pub heard-taken : at < rules → (s : ℕ) → s ≡ choose (mark (getD (getD t at []) 3 0)) (getD (getD t at []) 4 0) (getD (x .live) 7 0)
       → Acted (e .dst) (takenIn kind e v (orders (getD t at []) (e .src) (y .0)) s used x) (lastAfter kind e) kind used n x r x'
       → Ended (e .dst) count rs (handedTo kind e (Deliver v y) used x rs) (lastAfter kind e) kind used n x r x'
-  heard-taken h s q a = ended-by (e .dst) count rs (handedTo kind e (Deliver v y) used x rs) (lastAfter kind e) kind used n x _ r x' a
-      (λ hall size last. taken-is kind e used x rs hall last v y (replied (getD t at []) (e .src) (y .0)) s (sym q) (here false (chosen .takes h))
-      (row-replies 2 (getD (x .live) 7 0) (e .src) (y .0) t rules at laid (chosen .found h) h))
+  heard-taken h s q a =
+      let z = takes (v .0) _ _ (e .src) (y .0) t rules laid at chosen h in
+      ended-by (e .dst) count rs (handedTo kind e (Deliver v y) used x rs) (lastAfter kind e) kind used n x _ r x' a
+      (λ hall size last. taken-is kind e used x rs hall last v y (replied (getD t at []) (e .src) (y .0)) s (sym q) (here false (z .0)) (z .1))
 
 -- ---- the whole action
 module _ (kind : Kind) (e : Envelope) (used n : ℕ) (x : Rows) (fine : Fine kind used n x) (rs : List Rule) (count : ℕ) where

@@ -55,9 +55,6 @@ last-is w p laid s few =
     let d = getD-drop 8 w (s .0) 0 in
     taken-at (drop 8 w) (getD w 4 0) (s .0) (λ h. d ∙ sym z ∙ laid .tail .rest (s .0) (omega arith) few) ∙ d
 
-pub state-small : (w : List ℕ) (p : List (List ℕ)) → RowsLaid w p → getD w 7 0 ≤ lastState
-state-small w p laid = let z = tail-at w 3 in let y = laid .tail .state in omega arith
-
 module _ (kind : Kind) (e : Envelope) (used : ℕ) (x : Rows) (rs : List Rule) (hall : Around (e .dst)) (last : LastMessage) where
   abbrev w : List ℕ
   w = x .live

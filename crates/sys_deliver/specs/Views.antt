@@ -1,10 +1,10 @@
 -- A message handed to a live actor, and the rule that takes it.
 -- Assumes nothing.
-use Prim.Native.Nat.{ℕ, _≤_, _<_}
-use mathlib.Core.Path.{_≡_}
-use mathlib.Core.Bool.{Bool, true, false, _||_}
+use Prim.Native.Nat.{ℕ}
+use mathlib.Core.Bool.{Bool, _||_}
 use mathlib.Core.List.{List}
 use lib.Dec.{leb}
+use Rattle.lists.specs.Lists.{choose}
 use Rattle.types.specs.Capacities.{mostPending}
 use Rattle.types.specs.declared.Id.{Id}
 use Rattle.types.specs.declared.Kind.{Kind}
@@ -18,7 +18,7 @@ use Rattle.rules.specs.Network.{onDeliver}
 use Rattle.rules.specs.Link.{onMsg}
 use Rattle.rules.specs.System.{Sys, withLink, runCommands}
 use Rattle.net_rows.specs.Views.{netOf, roomOf}
-use Rattle.link_tables.specs.Rows.{rulesIn, firstOf}
+use Rattle.link_tables.specs.Rows.{decidingOf}
 use Rattle.sys_seat.specs.Seat.{Around, holding}
 use Rattle.sys_reacts.specs.Views.{limitsOf}
 use Rattle.sys_moves.specs.Views.{Rows, actorAt}
@@ -34,7 +34,5 @@ abbrev pub onlyAcked : ℕ → ℕ → List Rule → ℕ → Id → ℕ → Bool
 onlyAcked number last rs state source payload = leb number last || ignored (reply rs 2 state source payload)
 
 -- The place of the rule that takes it, or the count of rules where it is only acked.
-pub record Chosen (number last : ℕ) (t : List (List ℕ)) (rules state : ℕ) (source : Id) (payload at : ℕ) : Type 0 where
-  pub found : at < rules → at ≡ firstOf 2 state payload (rulesIn t rules)
-  pub takes : at < rules → onlyAcked number last (rulesIn t rules) state source payload ≡ false
-  pub acks : rules ≤ at → onlyAcked number last (rulesIn t rules) state source payload ≡ true
+abbrev pub takerOf : ℕ → ℕ → ℕ → Id → ℕ → List (List ℕ) → ℕ → ℕ
+takerOf number last state source payload t rules = choose (leb number last) rules (decidingOf 2 state source payload t rules)

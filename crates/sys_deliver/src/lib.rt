@@ -2,8 +2,7 @@
 use answers::Answer;
 use link_rows::RECORD;
 use link_rows::ROW;
-use link_tables::first_match;
-use link_tables::is_ignored;
+use link_tables::deciding;
 use link_tables::state_after;
 use net_rows::Sent;
 use sys_moves::ack_only;
@@ -29,7 +28,7 @@ ghost use Rattle.link_rows.specs.Rows.{rowSize, durableIn};
 ghost use Rattle.sys_reacts.specs.Views.{lastAfter};
 ghost use Rattle.sys_rows.specs.Rows.{TailLaid};
 ghost use Rattle.sys_moves.specs.Views.{rowsOf, Fine, Acted, passedBy, Ended, Stepped};
-ghost use Rattle.sys_deliver.specs.Views.{handedTo, Chosen};
+ghost use Rattle.sys_deliver.specs.Views.{handedTo, takerOf};
 
 // The rule that takes a message: a newer number than the last one, and a rule that does not ignore it. Else the count of rules.
 fn rule_for(
@@ -41,19 +40,12 @@ fn rule_for(
     payload: u64,
 ) -> usize
     requires { ⌜ TableLaid (now table) rules × (state ≤ lastState) ⌝ }
-    ensures { λ r. ⌜ ((source : Id) → Chosen number last (now (table .entry)) rules state source payload r) ⌝ }
+    ensures { λ r. ⌜ ((source : Id) → r ≡ takerOf number last state source payload (now (table .entry)) rules) ⌝ }
 {
     if number <= last {
         return rules;
     }
-    let at = first_match(table, rules, 2, state, payload);
-    if rules <= at {
-        return rules;
-    }
-    if is_ignored(&table[at]) {
-        return rules;
-    }
-    at
+    deciding(table, rules, 2, state, payload)
 }
 
 // Acked, and nothing more.

@@ -43,14 +43,11 @@ use Rattle.sys_emits.specs.Views.{sysIn}
 use Rattle.sys_emits.proofs.Laws.{not-both}
 use Rattle.sys_reacts.specs.Views.{Safe}
 use Rattle.sys_rows.specs.Rows.{actorOf, RowsLaid, Settled}
-use Rattle.sys_rows.proofs.Laws.{aside, aside-head, tail-at, tail-marks, as-settled}
+use Rattle.sys_rows.proofs.Laws.{state-small, aside, aside-head, tail-marks, as-settled}
 use Rattle.sys_moves.specs.Views.{Rows, capsOf, actorAt, sysAt, reacting, Fine, Acted, Stepped, lastThen}
 use Rattle.sys_moves.proofs.Laws.{places-are, take-all}
 use Rattle.sys_moves.proofs.Ends.{ended-by, ended-refused}
 use Rattle.sys_timeout.proofs.Timed.{far-is, unset-is, timed-is, idle-is, quiet-is, resends-are}
-
-pub state-small : (w : List ℕ) (p : List (List ℕ)) → RowsLaid w p → getD w 7 0 ≤ lastState
-state-small w p laid = let z = tail-at w 3 in let y = laid .tail .state in omega arith
 
 -- ---- the timers without one of them, as a word
 pub cut-small : (x : Timers) (t : ℕ) → cancelOf x t .timers .0 < 4294967296
@@ -77,48 +74,6 @@ put-timers w p t laid h =
         tail = tail-marks w (set w 6 t) (laid .tail) (same 4 (λ z. omega arith)) (omega arith) (omega arith) (λ i. same (8 + i) (λ z. omega arith));
       };
     }
-
--- ---- the place of the rule that decides
-module _ (state timer : ℕ) (t : List (List ℕ)) (used at : ℕ) (laid : TableLaid t used) (e : at ≡ firstOf 3 state timer (rulesIn t used)) where
-  abbrev answer : Reply
-  answer = reply (rulesIn t used) 3 state nobody timer
-
-  pub none-decides : used ≤ at → used ≡ choose (ignored answer) used (firstOf 3 state timer (rulesIn t used))
-  unfolding choose
-  none-decides h = rw (none-ignored 3 state nobody timer t used at laid e h)
-
-  pub one-ignores : at < used → ignored (replied (getD t at []) nobody timer) ≡ true
-      → used ≡ choose (ignored answer) used (firstOf 3 state timer (rulesIn t used))
-  unfolding choose
-  one-ignores h i = rw (row-replies 3 state nobody timer t used at laid e h, i)
-
-  pub one-decides : at < used → ignored (replied (getD t at []) nobody timer) ≡ false
-      → at ≡ choose (ignored answer) used (firstOf 3 state timer (rulesIn t used))
-  unfolding choose
-  one-decides h i = e ∙ rw (row-replies 3 state nobody timer t used at laid e h, i)
-
--- What that place says.
-module _ (state timer : ℕ) (t : List (List ℕ)) (used at : ℕ) (laid : TableLaid t used)
-    (e : at ≡ choose (ignored (reply (rulesIn t used) 3 state nobody timer)) used (firstOf 3 state timer (rulesIn t used))) where
-  found : (b : Bool) → ignored (reply (rulesIn t used) 3 state nobody timer) ≡ b → at < used
-      → (ignored (reply (rulesIn t used) 3 state nobody timer) ≡ false) × (at ≡ firstOf 3 state timer (rulesIn t used))
-  unfolding choose
-  found true i h = let z : at ≡ used = e ∙ rw i in absurd (omega arith)
-  found false i h = (i, e ∙ rw i)
-
-  pub place-counts : at < used → ignored (reply (rulesIn t used) 3 state nobody timer) ≡ false
-  place-counts h = found _ refl h .0
-
-  pub place-out : at < used → reply (rulesIn t used) 3 state nobody timer .out ≡ orders (getD t at []) nobody timer
-  place-out h = ap (λ (r : Reply). r .out) (row-replies 3 state nobody timer t used at laid (found _ refl h .1) h)
-
-  pub place-idle : used ≤ at → ignored (reply (rulesIn t used) 3 state nobody timer) ≡ true
-  unfolding choose
-  place-idle h = go (ignored (reply (rulesIn t used) 3 state nobody timer)) refl
-    where
-      go : (b : Bool) → ignored (reply (rulesIn t used) 3 state nobody timer) ≡ b → ignored (reply (rulesIn t used) 3 state nobody timer) ≡ true
-      go true i = i
-      go false i = none-ignored 3 state nobody timer t used at laid (e ∙ rw i) h
 
 -- ---- the ends
 module _ (me : Id) (count : ℕ) (rs : List Rule) (kind : Kind) (used n : ℕ) (x : Rows) (fine : Fine kind used n x) (t : ℕ) where

@@ -2,8 +2,7 @@
 use answers::Answer;
 use link_rows::RECORD;
 use link_rows::ROW;
-use link_tables::first_match;
-use link_tables::is_ignored;
+use link_tables::deciding;
 use link_timers::Timers;
 use net_rows::Sent;
 use sys_moves::by_rule;
@@ -17,17 +16,15 @@ use types::NETWORK;
 ghost use mathlib.Core.Path.{_≡_};
 ghost use mathlib.Core.Bool.{true};
 ghost use mathlib.Core.List.{List};
-ghost use Prim.Native.Nat.{ℕ, _≤_, _<_};
+ghost use Prim.Native.Nat.{ℕ, _<_};
 ghost use lib.ListN.{length, getD};
-ghost use Rattle.lists.specs.Lists.{choose};
-ghost use Rattle.types.specs.Capacities.{mostEntries, lastState, network};
+ghost use Rattle.types.specs.Capacities.{mostEntries, network};
 ghost use Rattle.types.specs.declared.Rule.{Rule};
 ghost use Rattle.types.specs.declared.Action.the-variants.{Timeout};
-ghost use Rattle.rules.specs.Inner.{reply, ignored, nobody};
 ghost use Rattle.rules.specs.Timers.{isSet};
 ghost use Rattle.link_timers.specs.Views.{listed};
 ghost use Rattle.net_rows.specs.Views.{NetReady};
-ghost use Rattle.link_tables.specs.Rows.{TableLaid, rulesIn, firstOf};
+ghost use Rattle.link_tables.specs.Rows.{TableLaid, rulesIn};
 ghost use Rattle.sys_rows.specs.Rows.{RowsLaid};
 ghost use Rattle.sys_moves.specs.Views.{rowsOf, Fine, Stepped};
 
@@ -74,22 +71,6 @@ fn on_network(
     }
 }
 
-// The place of the rule that decides on a timer; the count of rules where none does, or the one that does ignores it.
-fn decides(table: &[[u64; 16]; MOST_RULES], rules: usize, state: u64, timer: u8) -> usize
-    requires { ⌜ TableLaid (now table) rules × (state ≤ lastState) ⌝ }
-    ensures { λ r. ⌜ r ≡ choose (ignored (reply (rulesIn (now (table .entry)) rules) 3 state nobody timer)) rules
-        (firstOf 3 state timer (rulesIn (now (table .entry)) rules)) ⌝ }
-{
-    let at = first_match(table, rules, 3, state, timer as u64);
-    if rules <= at {
-        return rules;
-    }
-    if is_ignored(&table[at]) {
-        return rules;
-    }
-    at
-}
-
 // A user's timer, which is set: it goes, and its rule's commands are run. The state stays as it was.
 fn on_user(
     c: &mut [[u64; 4]; MOST_ENTRIES],
@@ -116,7 +97,7 @@ fn on_user(
     let cut = Timers(set).cancel(timer);
     let timers = cut.timers;
     let rest = timers.0;
-    let at = decides(table, rules, state, timer);
+    let at = deciding(table, rules, 3, state, timer as u64);
     if rules <= at {
         live[6] = rest as u64;
         return Sent {
@@ -143,7 +124,7 @@ fn on_user(
     )
 }
 
-// A Timeout of an actor that is there, among so many.
+// A Timeout of an actor that is there, among whatever number of them.
 pub fn timeout(
     c: &mut [[u64; 4]; MOST_ENTRIES],
     live: &mut [u64; ROW],
@@ -155,14 +136,13 @@ pub fn timeout(
     kind: Kind,
     used: usize,
     len: u64,
-    count: usize,
     i: Id,
     timer: u8,
 ) -> Sent
-    requires { ⌜ Fine kind used len (rowsOf (now c) (now live) (now pend) (now kept) (now stored)) × TableLaid (now table) rules × (i .0 < count) ⌝ }
-    ensures { λ r. ⌜ Stepped count (Timeout i timer) i (rulesIn (now (table .entry)) rules) kind used len
+    requires { ⌜ Fine kind used len (rowsOf (now c) (now live) (now pend) (now kept) (now stored)) × TableLaid (now table) rules ⌝ }
+    ensures { λ r. ⌜ ((count : ℕ) → Stepped count (Timeout i timer) i (rulesIn (now (table .entry)) rules) kind used len
         (rowsOf (now (c .entry)) (now (live .entry)) (now (pend .entry)) (now (kept .entry)) (now (stored .entry)))
-        r (rowsOf (now (c .exit)) (now (live .exit)) (now (pend .exit)) (now (kept .exit)) (now (stored .exit))) ⌝ }
+        r (rowsOf (now (c .exit)) (now (live .exit)) (now (pend .exit)) (now (kept .exit)) (now (stored .exit)))) ⌝ }
 {
     if NETWORK < timer {
         return Sent {

@@ -21,9 +21,8 @@ use Rattle.link_tables.proofs.Replies.{start-replies, start-none}
 use Rattle.link_rows.specs.Rows.{rowSize, pendingIn, numberIn, storageIn, durableIn}
 use Rattle.link_rows.proofs.Heads.{sendable-same}
 use Rattle.sys_rows.specs.Rows.{storedIn, freshRow, RowsLaid, Settled}
-use Rattle.sys_rows.proofs.Laws.{aside, aside-head, tail-at, tail-marks}
+use Rattle.sys_rows.proofs.Laws.{timers-small, aside, aside-head, tail-at, tail-marks}
 use Rattle.sys_rows.proofs.Fresh.{fresh-durable, fresh-laid}
-use Rattle.sys_moves.proofs.Taken.{timers-small}
 use Rattle.sys_wake.specs.Starts.{begun, Loaded, savedIn, startPlace, startRow}
 
 -- ---- marks beside a durable part

@@ -194,7 +194,6 @@ pub fn wake(
 }
 
 // A recovery: 4 where the actor is not crashed; else the mark goes, and it is a start. The mark is there again after a refusal.
-// The test of i stands in the caller, which lends its rows: `count` is for the contract.
 pub fn recover(
     c: &mut [[u64; 4]; MOST_ENTRIES],
     live: &mut [u64; ROW],
@@ -206,13 +205,12 @@ pub fn recover(
     kind: Kind,
     used: usize,
     len: u64,
-    count: usize,
     i: Id,
 ) -> Sent
-    requires { ⌜ Fine kind used len (rowsOf (now c) (now live) (now pend) (now kept) (now stored)) × TableLaid (now table) rules × (i .0 < count) ⌝ }
-    ensures { λ r. ⌜ Stepped count (Recover i) i (rulesIn (now (table .entry)) rules) kind used len
+    requires { ⌜ Fine kind used len (rowsOf (now c) (now live) (now pend) (now kept) (now stored)) × TableLaid (now table) rules ⌝ }
+    ensures { λ r. ⌜ ((count : ℕ) → Stepped count (Recover i) i (rulesIn (now (table .entry)) rules) kind used len
         (rowsOf (now (c .entry)) (now (live .entry)) (now (pend .entry)) (now (kept .entry)) (now (stored .entry)))
-        r (rowsOf (now (c .exit)) (now (live .exit)) (now (pend .exit)) (now (kept .exit)) (now (stored .exit))) ⌝ }
+        r (rowsOf (now (c .exit)) (now (live .exit)) (now (pend .exit)) (now (kept .exit)) (now (stored .exit)))) ⌝ }
 {
     let mark = live[5];
     if mark % 2 == 0 {

@@ -6,7 +6,7 @@ use Rattle.types.specs.declared.Id.{Id}
 use Rattle.link_tables.specs.Rows.{rulesIn}
 use Rattle.sys_moves.specs.Views.{rowsOf}
 use Rattle.sys_act.specs.Seats.{target, seatOf}
-use Rattle.sys_act.proofs.Acts.{below, as-told, stepped-at, no-timeout, no-crash, no-recover, no-deliver, crashes, drops-on}
+use Rattle.sys_act.proofs.Acts.{as-told, stepped-at, no-timeout, no-crash, no-recover, no-deliver, crashes, drops-on}
 use borrow.Author.Needs.{needs}
 use Rattle.sys_act.proofs.act.Statement.{statement}
 use Rattle.sys_act.proofs.act.Tie as tie
@@ -67,17 +67,9 @@ returns-2 c =
     (sym k ∙ not-true _ (c .before .if2 .taken)))
 
 timeout-requires : tie.Need-timeout-requires
-unfolding target
 timeout-requires c κs =
     let s = c .before .before .before .before .before .before .before .before .before .before .before in
-    let a = s .args in
-    let k = c .before .before .before .before .before .before .before .before .before .known .ensures
-    ∙ ap (λ (i : Id). ltb (i .0) (a .count)) (c .before .before .before .before .before .before .before .before .before .before .actor-of .ensures) in (
-      s .pre .0,
-      s .pre .1,
-      below (a .count) (a .a) _ (c .before .before .before .before .before .before .before .a3 .given .1)
-          (sym k ∙ not-false _ (c .before .before .before .before .before .if2 .left)),
-    )
+    (s .pre .0, s .pre .1)
 
 enum-told : tie.Need-enum-told
 enum-told c = search needs
@@ -122,17 +114,9 @@ returns-4 c =
     (sym k ∙ not-true _ (c .before .if4 .taken)))
 
 recover-requires : tie.Need-recover-requires
-unfolding target
 recover-requires c κs =
     let s = c .before .before .before .before .before .before .before .before .before .before .before in
-    let a = s .args in
-    let k = c .before .before .before .before .before .before .before .before .before .known .ensures
-    ∙ ap (λ (i : Id). ltb (i .0) (a .count)) (c .before .before .before .before .before .before .before .before .before .before .actor-of .ensures) in (
-      s .pre .0,
-      s .pre .1,
-      below (a .count) (a .a) _ (c .before .before .before .before .before .before .before .a4 .given .1)
-          (sym k ∙ not-false _ (c .before .before .before .before .before .if4 .left)),
-    )
+    (s .pre .0, s .pre .1)
 
 returns-5 : tie.Need-returns-5
 unfolding target
@@ -172,7 +156,7 @@ returns-7 c =
     let g = c .timeout in
     stepped-at (a .count) rs (a .kind) (a .used) (a .len) x (a .a) _ (c .before .before .before .before .before .before .before .before .a3 .given .1) _ k
     (not-false _ (c .before .before .before .before .before .before .if2 .left)) (g .result)
-    (rowsOf (g .last .0) (g .last .1 .0) (g .last .1 .1 .0) (g .last .1 .1 .1 .0) (g .last .1 .1 .1 .1 .0)) (g .ensures)
+    (rowsOf (g .last .0) (g .last .1 .0) (g .last .1 .1 .0) (g .last .1 .1 .1 .0) (g .last .1 .1 .1 .1 .0)) (g .ensures (a .count))
 
 returns-8 : tie.Need-returns-8
 unfolding target
@@ -201,7 +185,7 @@ returns-9 c =
     let g = c .recover in
     stepped-at (a .count) rs (a .kind) (a .used) (a .len) x (a .a) _ (c .before .before .before .before .before .before .before .before .a4 .given .1) _ k
     (not-false _ (c .before .before .before .before .before .before .if4 .left)) (g .result)
-    (rowsOf (g .last .0) (g .last .1 .0) (g .last .1 .1 .0) (g .last .1 .1 .1 .0) (g .last .1 .1 .1 .1 .0)) (g .ensures)
+    (rowsOf (g .last .0) (g .last .1 .0) (g .last .1 .1 .0) (g .last .1 .1 .1 .0) (g .last .1 .1 .1 .1 .0)) (g .ensures (a .count))
 
 pub act-spec : {M : Type 1} → statement M
 act-spec =

@@ -1,6 +1,6 @@
 use native.Mathlib.Omega.{arith}
 use Rattle.sys_moves.specs.Views.{rowsOf}
-use Rattle.sys_deliver.proofs.Heard.{state-small}
+use Rattle.sys_rows.proofs.Laws.{state-small}
 use Rattle.sys_deliver.proofs.Chosen.{heard-passed, heard-taken}
 use borrow.Author.Needs.{needs}
 use Rattle.sys_deliver.proofs.hear.Statement.{statement}

@@ -1,4 +1,4 @@
-use Rattle.sys_moves.proofs.Taken.{timers-small}
+use Rattle.sys_rows.proofs.Laws.{timers-small}
 use Rattle.sys_moves.specs.Views.{rowsOf}
 use Rattle.sys_deliver.proofs.Passed.{passed-acted}
 use borrow.Author.Needs.{needs}

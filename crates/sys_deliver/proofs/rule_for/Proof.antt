@@ -1,59 +1,23 @@
+-- Not newer, or else as the rules decide.
 use native.Mathlib.Omega.{arith}
-use mathlib.Core.Path.{sym, _∙_}
-use borrow.Author.Tests.{not-true, not-false}
-use Rattle.sys_deliver.proofs.Chosen.{chosen-old, chosen-none, chosen-ignored, chosen-takes}
+use Rattle.sys_deliver.proofs.Chosen.{taker-old, taker-new}
 use borrow.Author.Needs.{needs}
 use Rattle.sys_deliver.proofs.rule_for.Statement.{statement}
 use Rattle.sys_deliver.proofs.rule_for.Tie as tie
 
 returns : tie.Need-returns
-returns c = let a = c .before .args in λ source. chosen-old (a .number) (a .last) (a .table .now) (a .rules) (a .state) source (a .payload) (c .if1 .taken)
+returns c =
+    let a = c .before .args in
+    λ source. taker-old (a .number) (a .last) (a .state) source (a .payload) (a .table .now) (a .rules) (c .if1 .taken)
 
-first-match-requires : tie.Need-first-match-requires
-first-match-requires c κs = let s = c .before in (s .pre .0 .fit, omega arith, let z = s .pre .1 in omega arith)
+deciding-requires : tie.Need-deciding-requires
+deciding-requires c κs = let s = c .before in (s .pre .0, omega arith, let z = s .pre .1 in omega arith)
 
 returns-2 : tie.Need-returns-2
 returns-2 c =
-    let s = c .before .before .before in
-    let a = s .args in
-    λ source.
-    chosen-none (a .number) (a .last) (a .table .now) (a .rules) (a .state) source (a .payload) (s .pre .0) _ (c .before .first-match .ensures) (c .if2 .taken)
-
-mul-is-ignored : tie.Need-mul-is-ignored
-mul-is-ignored c = search needs
-
-shared-slice-element-is-ignored : tie.Need-shared-slice-element-is-ignored
-shared-slice-element-is-ignored c = search needs
-
-is-ignored-requires : tie.Need-is-ignored-requires
-is-ignored-requires c κs = let s = c .before .before .before .before .before in s .pre .0 .rows _ (omega arith)
-
-returns-3 : tie.Need-returns-3
-returns-3 c =
-    let s = c .before .before .before .before .before .before .before in
-    let a = s .args in
-    λ source.
-    chosen-ignored (a .number) (a .last) (a .table .now) (a .rules) (a .state) source (a .payload) (s .pre .0) _
-    (c .before .before .before .before .before .first-match .ensures) (omega arith) (sym (c .before .is-ignored .ensures source (a .payload)) ∙ c .if3 .taken)
-
-returns-4 : tie.Need-returns-4
-returns-4 c =
-    let s = c .before .before .before .before .before .before .before in
-    let a = s .args in
-    λ source.
-    chosen-takes (a .number) (a .last) (a .table .now) (a .rules) (a .state) source (a .payload) (s .pre .0) _
-    (c .before .before .before .before .before .first-match .ensures) (omega arith) (omega arith)
-    (sym (c .before .is-ignored .ensures source (a .payload)) ∙ c .if3 .left)
+    let a = c .before .before .args in
+    λ source. taker-new (a .number) (a .last) (a .state) source (a .payload) (a .table .now) (a .rules) (omega arith) (c .deciding .result)
+    (c .deciding .ensures source)
 
 pub rule-for-spec : {M : Type 1} → statement M
-rule-for-spec =
-    tie.close
-    (tie.spec
-    returns
-    first-match-requires
-    returns-2
-    mul-is-ignored
-    shared-slice-element-is-ignored
-    is-ignored-requires
-    returns-3
-    returns-4)
+rule-for-spec = tie.close (tie.spec returns deciding-requires returns-2)

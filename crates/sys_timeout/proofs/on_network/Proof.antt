@@ -3,7 +3,7 @@ use native.Mathlib.Omega.{arith}
 use Prim.Native.Nat.{_<_}
 use lib.ListN.{getD}
 use Rattle.sys_moves.specs.Views.{rowsOf}
-use Rattle.sys_moves.proofs.Taken.{timers-small}
+use Rattle.sys_rows.proofs.Laws.{timers-small}
 use Rattle.sys_timeout.proofs.Laws.{quiet, again-sent}
 use borrow.Author.Needs.{needs}
 use Rattle.sys_timeout.proofs.on_network.Statement.{statement}

@@ -4,12 +4,13 @@ use Prim.Native.Nat.{_<_}
 use mathlib.Core.Path.{ap}
 use mathlib.Core.List.{[]}
 use lib.ListN.{getD}
-use Rattle.rules.specs.Inner.{nobody}
+use Rattle.rules.specs.Inner.{Reply, nobody}
 use Rattle.link_timers.specs.declared.Change.{Change}
 use Rattle.link_tables.specs.Rows.{orders, rulesIn}
+use Rattle.link_tables.proofs.Replies.{place-counts, place-replies, place-idle}
 use Rattle.sys_moves.specs.Views.{rowsOf}
-use Rattle.sys_moves.proofs.Taken.{timers-small}
-use Rattle.sys_timeout.proofs.Laws.{state-small, place-counts, place-out, place-idle, idle, timed}
+use Rattle.sys_rows.proofs.Laws.{timers-small, state-small}
+use Rattle.sys_timeout.proofs.Laws.{idle, timed}
 use borrow.Author.Needs.{needs}
 use Rattle.sys_timeout.proofs.on_user.Statement.{statement}
 use Rattle.sys_timeout.proofs.on_user.Tie as tie
@@ -29,10 +30,11 @@ element-copy-out-state c = search needs
 cancel-requires : tie.Need-cancel-requires
 cancel-requires c κs = search needs
 
-decides-requires : tie.Need-decides-requires
-decides-requires c κs =
-    let s = c .before .before .before .before in
-    (s .pre .1, state-small (s .args .live .now) (s .args .pend .now) (s .pre .0 .live))
+deciding-requires : tie.Need-deciding-requires
+deciding-requires c κs =
+    let s = c .before .before .before .before .before in
+    let z = state-small (s .args .live .now) (s .args .pend .now) (s .pre .0 .live) in
+    (s .pre .1, omega arith, omega arith)
 
 cast-live : tie.Need-cast-live
 cast-live c = search needs
@@ -42,12 +44,12 @@ element-write-live c = search needs
 
 returns : tie.Need-returns
 returns c =
-    let s = c .before .before .before .before .before .before in
+    let s = c .before .before .before .before .before .before .before in
     let a = s .args in
     let w = a .live .now in
-    let cut = c .before .before .before .cancel in
-    let d = c .before .decides in
-    let i = place-idle (getD w 7 0) (a .timer) (a .table .now) (a .rules) (d .result) (s .pre .1) (d .ensures) (c .if1 .taken) in
+    let cut = c .before .before .before .before .cancel in
+    let d = c .before .deciding in
+    let i = place-idle 3 (getD w 7 0) nobody (a .timer) (a .table .now) (a .rules) (d .result) (s .pre .1) (d .ensures nobody) (c .if1 .taken) in
     λ count.
     idle (a .me) count (rulesIn (a .table .now) (a .rules)) (a .kind) (a .used) (a .len)
     (rowsOf (a .c .now) w (a .pend .now) (a .kept .now) (a .stored .now)) (s .pre .0) (a .timer) (s .pre .2) (s .pre .3)
@@ -61,21 +63,22 @@ index-1-by-rule c = search needs
 
 by-rule-requires : tie.Need-by-rule-requires
 by-rule-requires c κs =
-    let s = c .before .before .before .before .before .before .before .before .before .before .before .before .before in
-    let at = c .before .before .before .before .before .before .before .before .decides .result in
+    let s = c .before .before .before .before .before .before .before .before .before .before .before .before .before .before in
+    let at = c .before .before .before .before .before .before .before .before .deciding .result in
     let h : at < s .args .rules = omega (arith, c .before .before .before .before .before .before .before .if1 .left) in
     (s .pre .0, s .pre .1 .rows at h, state-small (s .args .live .now) (s .args .pend .now) (s .pre .0 .live))
 
 returns-2 : tie.Need-returns-2
 returns-2 c =
-    let s = c .before .before .before .before .before .before .before .before .before .before .before .before .before .before in
+    let s = c .before .before .before .before .before .before .before .before .before .before .before .before .before .before .before in
     let a = s .args in
     let w = a .live .now in
-    let cut = c .before .before .before .before .before .before .before .before .before .before .before .cancel in
-    let d = c .before .before .before .before .before .before .before .before .before .decides in
+    let cut = c .before .before .before .before .before .before .before .before .before .before .before .before .cancel in
+    let d = c .before .before .before .before .before .before .before .before .before .deciding in
     let h : d .result < a .rules = omega (arith, c .before .before .before .before .before .before .before .before .if1 .left) in
-    let i = place-counts (getD w 7 0) (a .timer) (a .table .now) (a .rules) (d .result) (s .pre .1) (d .ensures) h in
-    let e = place-out (getD w 7 0) (a .timer) (a .table .now) (a .rules) (d .result) (s .pre .1) (d .ensures) h in
+    let i = place-counts 3 (getD w 7 0) nobody (a .timer) (a .table .now) (a .rules) (d .result) (s .pre .1) (d .ensures nobody) h in
+    let e = ap (λ (r : Reply). r .out) (place-replies 3 (getD w 7 0) nobody (a .timer) (a .table .now) (a .rules) (d .result) (s .pre .1) (d .ensures nobody) h)
+    in
     let x = c .by-rule in
     λ count.
     timed (a .me) count (rulesIn (a .table .now) (a .rules)) (a .kind) (a .used) (a .len)
@@ -91,7 +94,7 @@ on-user-spec =
     cast-set
     element-copy-out-state
     cancel-requires
-    decides-requires
+    deciding-requires
     cast-live
     element-write-live
     returns

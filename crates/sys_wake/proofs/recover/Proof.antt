@@ -15,7 +15,8 @@ returns c =
     let a = s .args in
     let x : Rows = rowsOf (a .c .now) (a .live .now) (a .pend .now) (a .kept .now) (a .stored .now) in
     let rs = rulesIn (a .table .now) (a .rules) in
-    stepped-live (a .count) (a .i) rs (a .kind) (a .used) (a .len) x (s .pre .0) (is-live _ (c .if1 .taken))
+    λ count.
+    stepped-live count (a .i) rs (a .kind) (a .used) (a .len) x (s .pre .0) (is-live _ (c .if1 .taken))
 
 element-write-live : tie.Need-element-write-live
 element-write-live c = search needs
@@ -26,7 +27,7 @@ wake-requires c κs =
     let a = s .args in
     let x : Rows = rowsOf (a .c .now) (a .live .now) (a .pend .now) (a .kept .now) (a .stored .now) in
     let rs = rulesIn (a .table .now) (a .rules) in
-    (bare-fine (a .count) (a .i) rs (a .kind) (a .used) (a .len) x (s .pre .0), s .pre .1)
+    (bare-fine 0 (a .i) rs (a .kind) (a .used) (a .len) x (s .pre .0), s .pre .1)
 
 is-done-requires : tie.Need-is-done-requires
 is-done-requires c κs = search needs
@@ -41,7 +42,8 @@ returns-2 c =
     let rs = rulesIn (a .table .now) (a .rules) in
     let l = w .wake .last in
     let z : Rows = rowsOf (l .0) (l .1 .0) (l .1 .1 .0) (l .1 .1 .1 .0) (l .1 .1 .1 .1 .0) in
-    stepped-done (a .count) (a .i) rs (a .kind) (a .used) (a .len) x (s .pre .0) (is-crashed _ (f .if1 .left)) (w .wake .result) z (w .wake .ensures (a .count))
+    λ count.
+    stepped-done count (a .i) rs (a .kind) (a .used) (a .len) x (s .pre .0) (is-crashed _ (f .if1 .left)) (w .wake .result) z (w .wake .ensures count)
     (sym (c .before .is-done .ensures) ∙ c .if2 .taken)
 
 element-write-live-2 : tie.Need-element-write-live-2
@@ -57,7 +59,8 @@ returns-3 c =
     let rs = rulesIn (a .table .now) (a .rules) in
     let l = w .wake .last in
     let z : Rows = rowsOf (l .0) (l .1 .0) (l .1 .1 .0) (l .1 .1 .1 .0) (l .1 .1 .1 .1 .0) in
-    stepped-back (a .count) (a .i) rs (a .kind) (a .used) (a .len) x (s .pre .0) (is-crashed _ (f .if1 .left)) (w .wake .result) z (w .wake .ensures (a .count))
+    λ count.
+    stepped-back count (a .i) rs (a .kind) (a .used) (a .len) x (s .pre .0) (is-crashed _ (f .if1 .left)) (w .wake .result) z (w .wake .ensures count)
     (sym (c .before .is-done .ensures) ∙ c .if2 .left)
 
 pub recover-spec : {M : Type 1} → statement M

@@ -1,7 +1,7 @@
 use native.Mathlib.Omega.{arith}
 use Rattle.link_tables.specs.Rows.{rulesIn}
 use Rattle.sys_moves.specs.Views.{Rows, rowsOf}
-use Rattle.sys_moves.proofs.Taken.{timers-small}
+use Rattle.sys_rows.proofs.Laws.{timers-small}
 use Rattle.sys_wake.specs.Starts.{savedIn}
 use Rattle.sys_wake.proofs.Loads.{starts-by, few-events}
 use Rattle.sys_wake.proofs.Wakes.{woken-by}
