@@ -9,7 +9,7 @@ kit=$(dirname "$(dirname "$(rt doc)")")
 own=$kit/on/$(uname -m)
 program=$copy/crates/test_fixed_list
 
-faults="sys_deliver/ignored_marked_taken sys_moves/sent_not_saved link_tables/command_ignored sys_reacts/ack_left_out
+faults="link_tables/ignored_marked_taken sys_moves/sent_not_saved link_tables/command_ignored sys_reacts/ack_left_out
 sys_deliver/equal_number_handed link_rows/first_acked sys_timeout/idle_timer_stays sys_act/crash_keeps_timers
 sys_deliver/crashed_hears net_rows/count_not_raised"
 

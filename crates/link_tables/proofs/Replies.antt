@@ -7,11 +7,12 @@ use native.Mathlib.Omega.{arith}
 use mathlib.Core.Path.{_≡_, refl, sym, ap, _∙_}
 use mathlib.Core.Bool.{Bool, true, false, not, _&&_}
 use mathlib.Core.List.{List, [], _∷_, map}
-use lib.ListN.{length, take, getD}
+use lib.ListN.{length, take, getD, length-map}
 use lib.Seq.{getD-take, length-take-le}
 use lib.Dec.{eqb}
 use borrow.Author.Tests.{ne-eqb}
 use Rattle.lists.specs.Lists.{choose, any}
+use Rattle.lists.proofs.Places.{lead-le}
 use Rattle.types.specs.declared.Id.{Id}
 use Rattle.types.specs.declared.Storage.{Storage}
 use Rattle.types.specs.declared.Storage.the-variants.{Nothing, Value}
@@ -82,9 +83,14 @@ module _ (event state : ℕ) (source : Id) (value : ℕ) where
     none-ignored h = ap ignored (none-replies h)
 
     -- So the place that `deciding` gives is that of a rule that does not ignore the event, or the count.
-    pub none-decides : used ≤ at → used ≡ decidingOf event state source value t used
+    pub none-decides : used ≤ at → at ≡ decidingOf event state source value t used
     unfolding choose
-    none-decides h = rw (none-ignored h)
+    none-decides h =
+        let most = lead-le (λ x. not (matches event state value x)) (rulesIn t used) in
+        let z = length-map (take used t) ruleIn in
+        let y = length-take-le used t (laid .fit) in
+        let x : at ≡ used = omega arith in
+        x ∙ rw (none-ignored h)
 
     pub one-ignores : at < used → ignored (replied (getD t at []) source value) ≡ true → used ≡ decidingOf event state source value t used
     unfolding choose

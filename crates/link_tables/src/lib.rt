@@ -112,7 +112,7 @@ pub fn deciding(t: &[[u64; 16]], rules: usize, event: u64, state: u64, value: u6
 {
     let at = first_match(t, rules, event, state, value);
     if rules <= at {
-        return rules;
+        return at;
     }
     if is_ignored(&t[at]) {
         return rules;
