@@ -2,16 +2,15 @@
 -- Assumes nothing.
 use Prim.Native.Nat.{ℕ, zero, suc, _+_, _-_, _≤_, _<_}
 use native.Mathlib.Omega.{arith}
-use native.Mathlib.Numerals.{add-one}
 use mathlib.Core.Path.{_≡_, refl, sym, ap, _∙_}
 use mathlib.Core.Bool.{true}
-use mathlib.Core.List.{List, [], _∷_, _++_, map}
+use mathlib.Core.List.{List, _∷_, map}
 use lib.ListN.{length, take, drop, getD, set, length-map, length-take}
-use lib.Seq.{take-suc, length-take-le}
+use lib.Seq.{length-take-le}
 use borrow.Author.Tests.{leb-true}
 use Rattle.lists.specs.Lists.{pad}
 use Rattle.lists.proofs.Members.{every-cons}
-use Rattle.lists.proofs.Places.{append-pad, length-pad}
+use Rattle.lists.proofs.Places.{fill-more, length-pad}
 use Rattle.types.specs.Capacities.{mostPending, mostActors}
 use Rattle.types.specs.declared.Number.{Number}
 use Rattle.types.specs.declared.Pending.{Pending}
@@ -26,25 +25,12 @@ use Rattle.link_durable.proofs.Containers.{durable-parts}
 use Rattle.link_rows.specs.Rows.{rowSize, pendingIn, numberIn, storageIn, durableIn}
 use Rattle.link_layout.specs.Rows.{wordOf, takenOf, savesOf, valueOf, rowOf}
 
-map-snoc : {A B : Type 0} (f : A → B) (l : List A) (a : A) → map f (l ++ a ∷ []) ≡ map f l ++ f a ∷ []
-map-snoc f [] a = refl
-map-snoc {B = B} f (x ∷ l) a = ap (λ (r : List B). f x ∷ r) (map-snoc f l a)
-
--- One place more is filled.
-pub grown : {A B : Type 0} (f : A → B) (n : ℕ) (z : B) (es : List A) (d : A) (i : ℕ) → i < n → i < length es
-    → set (pad n z (map f (take i es))) i (f (getD es i d)) ≡ pad n z (map f (take (i + 1) es))
-grown {A} {B} f n z es d i h k =
-    let l = map f (take i es) in
-    let e : length l ≡ i = length-map (take i es) f ∙ length-take-le i es (omega arith) in
-    ap (λ (j : ℕ). set (pad n z l) j (f (getD es i d))) (sym e) ∙ append-pad n l (f (getD es i d)) z (omega arith)
-    ∙ ap (pad n z) (sym (map-snoc f (take i es) (getD es i d)) ∙ ap (map f) (sym (take-suc es i d k) ∙ ap (λ (j : ℕ). take j es) (sym (add-one i))))
-
--- The same past the first eight places.
-pub grown-after : (es : List Number) (d : Number) (i : ℕ) → i < mostActors → i < length es
-    → set (takenOf (take i es)) (8 + i) (getD es i d .0) ≡ takenOf (take (i + 1) es)
-grown-after es d i h k =
+-- One number more, past the first eight places.
+pub fill-after : (es : List Number) (d : Number) (i : ℕ) (r : List ℕ) → i < mostActors → i < length es → r ≡ takenOf (take i es)
+    → set r (8 + i) (getD es i d .0) ≡ takenOf (take (i + 1) es)
+fill-after es d i r h k q =
     let e : 8 + i ≡ suc (suc (suc (suc (suc (suc (suc (suc i))))))) = omega arith in
-    rw e (ap (λ (l : List ℕ). 0 ∷ 0 ∷ 0 ∷ 0 ∷ 0 ∷ 0 ∷ 0 ∷ 0 ∷ l) (grown wordOf (rowSize - 8) 0 es d i (omega arith) k))
+    rw (q, e) (ap (λ (l : List ℕ). 0 ∷ 0 ∷ 0 ∷ 0 ∷ 0 ∷ 0 ∷ 0 ∷ 0 ∷ l) (fill-more wordOf d es i k (rowSize - 8) 0 _ _ (omega arith) refl refl))
 
 pub filled : {A B : Type 0} (f : A → B) (n : ℕ) (z : B) (es : List A) (i : ℕ) → i ≤ n → length (pad n z (map f (take i es))) ≡ n
 filled f n z es i h = let a = length-map (take i es) f in let b = length-take i es in length-pad n z (map f (take i es)) (omega arith)

@@ -2,11 +2,10 @@
 -- Assumes nothing.
 use Prim.Native.Nat.{ℕ, zero, suc, _+_, _-_, _≤_, _<_}
 use native.Mathlib.Omega.{arith}
-use native.Mathlib.Numerals.{add-one}
 use mathlib.Core.Path.{_≡_, sym, ap, _∙_}
-use mathlib.Core.List.{List, [], _∷_, _++_}
+use mathlib.Core.List.{List, [], _∷_}
 use lib.ListN.{length, getD, set, take}
-use lib.Seq.{getD-set-same, getD-set-other, getD-take, take-suc, take-suc-set}
+use lib.Seq.{getD-set-same, getD-set-other, getD-take}
 use borrow.Author.Count.{below-more}
 use Rattle.lists.specs.Lists.{del}
 use Rattle.link_rows.specs.Rows.{rowSize, Sendable, HeadLaid}
@@ -20,12 +19,6 @@ sendable-same p q n e fit =
       dst = λ i h. let z = ap (λ (r : List ℕ). getD r 1 0) (at i h) in let y = fit .dst i h in omega arith;
       payload = λ i h. let z = ap (λ (r : List ℕ). getD r 2 0) (at i h) in let y = fit .payload i h in omega arith;
     }
-
--- One record more is copied.
-pub copied-more : (p q : List (List ℕ)) (i : ℕ) → i < length p → i < length q → take i q ≡ take i p
-    → take (i + 1) (set q i (getD p i [])) ≡ take (i + 1) p
-copied-more p q i a b e =
-    rw (add-one i) (take-suc-set q i (getD p i []) b ∙ ap (λ (l : List (List ℕ)). l ++ getD p i [] ∷ []) e ∙ sym (take-suc p i [] a))
 
 -- The same words up to place 3.
 pub head-same : (w v : List ℕ) (p : List (List ℕ)) → getD v 1 0 ≡ getD w 1 0 → getD v 2 0 ≡ getD w 2 0 → getD v 3 0 ≡ getD w 3 0

@@ -1,23 +1,19 @@
 -- Changes of rows are changes of the durable part.
 -- Assumes nothing.
-use Prim.Native.Nat.{ℕ, zero, suc, _+_, _-_, _≤_, _<_}
+use Prim.Native.Nat.{ℕ, suc, _+_, _-_, _≤_, _<_}
 use native.Mathlib.Omega.{arith}
 use native.Mathlib.Numerals.{add-one}
 use mathlib.Core.Path.{_≡_, refl, sym, ap, _∙_}
 use mathlib.Core.List.{List, [], _∷_, _++_, map}
 use lib.ListN.{length, getD, set, take, drop, length-set, length-map}
 use lib.Dec.{eqb}
-use mathlib.Core.Bool.{Bool, true, false, not}
+use mathlib.Core.Bool.{not}
 use Rattle.lists.specs.Lists.{lead, del}
-use Rattle.lists.proofs.Places.{cut-found, cut-missing}
+use Rattle.lists.proofs.Places.{lead-map, map-snoc, map-del, cut-found, cut-missing}
 use lib.Seq.{getD-set-same, getD-set-other, drop-set-lt, take-suc-set, length-take-le}
 use Rattle.rules.specs.Link.{numbered, posting, withInner, without, acked}
 use Rattle.link_rows.specs.Rows.{rowSize, pendingIn, numberIn, storageIn, durableIn, other, Turned}
 use Rattle.link_rows.proofs.Heads.{head-more, head-less}
-
-map-snoc : {A B : Type 0} (f : A → B) (l : List A) (a : A) → map f (l ++ a ∷ []) ≡ map f l ++ f a ∷ []
-map-snoc f [] a = refl
-map-snoc {B = B} f (x ∷ l) a = ap (λ (r : List B). f x ∷ r) (map-snoc f l a)
 
 -- Two words that are set, one after the other, and the words beside them.
 module _ (w : List ℕ) (i j a b : ℕ) (room : length w ≡ rowSize) (hi : i < 8) (hj : j < 8) (ne : i ≡ j → ⊥) where
@@ -118,17 +114,6 @@ turned-value w p v room hv =
     }
 
 -- ---- an ack
-map-del : {A B : Type 0} (f : A → B) (at : ℕ) (l : List A) → del at (map f l) ≡ map f (del at l)
-unfolding del
-map-del f zero [] = refl
-map-del f zero (x ∷ l) = refl
-map-del f (suc at) [] = refl
-map-del {B = B} f (suc at) (x ∷ l) = ap (λ (r : List B). f x ∷ r) (map-del f at l)
-
-lead-map : {A B : Type 0} (f : A → B) (p : B → Bool) (l : List A) → lead p (map f l) ≡ lead (λ x. p (f x)) l
-lead-map f p [] = refl
-lead-map f p (x ∷ l) = ap (λ (n : ℕ). elim (p (f x)) [ true ↦ suc n | false ↦ 0 ]) (lead-map f p l)
-
 module _ (n : ℕ) (l : List (List ℕ)) where
   first-is : lead (λ q. not (eqb n (q .number .0))) (map pendingIn l) ≡ lead (other n) l
   unfolding pendingIn

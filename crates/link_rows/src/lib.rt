@@ -1,11 +1,12 @@
 // The durable part of an actor as rows of words, lent: a message becomes pending, the inner actor saves a value, a
 // number is acked. A row: next number, count of pending records, whether a value is saved, the value, the count of sources, and from
 // place 8 on the numbers last taken. A pending record: number, destination, payload. The other places are free.
+use rows::remove_at;
 ghost use mathlib.Core.Path.{_≡_};
 ghost use mathlib.Core.List.{List};
-ghost use Prim.Native.Nat.{ℕ, _+_, _-_, _≤_, _<_};
+ghost use Prim.Native.Nat.{ℕ, _+_, _≤_, _<_};
 ghost use lib.ListN.{length, take, getD};
-ghost use Rattle.lists.specs.Lists.{lead, del};
+ghost use Rattle.lists.specs.Lists.{lead};
 ghost use Rattle.rules.specs.Link.{posting, withInner, acked};
 ghost use Rattle.link_rows.specs.Rows.{rowSize, other, Turned};
 
@@ -54,18 +55,6 @@ fn pending_place(pend: &[[u64; RECORD]], used: usize, number: u64) -> usize
     i
 }
 
-// What stands at a place is gone; what stood after it goes one place down.
-fn remove_at(pend: &mut [[u64; RECORD]], used: usize, at: usize)
-    requires { ⌜ (at < used) × (used ≤ length (now pend)) ⌝ }
-    ensures { λ _. ⌜ take (used - 1) (now (pend .exit)) ≡ del at (take used (now (pend .entry))) ⌝ }
-{
-    let mut i = at;
-    while i + 1 < used {
-        pend[i] = pend[i + 1];
-        i += 1;
-    }
-}
-
 // A number is acked: its record goes; absent is fine.
 pub fn drop_acked(live: &mut [u64], pend: &mut [[u64; RECORD]], number: u64)
     requires { ⌜ (length (now live) ≡ rowSize) × (getD (now live) 1 0 ≤ length (now pend)) ⌝ }
@@ -79,16 +68,4 @@ pub fn drop_acked(live: &mut [u64], pend: &mut [[u64; RECORD]], number: u64)
     }
     remove_at(pend, n as usize, at);
     live[1] = n - 1;
-}
-
-// The first n records of one are put in the place of those of the other.
-pub fn copy_records(from: &[[u64; RECORD]], to: &mut [[u64; RECORD]], n: usize)
-    requires { ⌜ (n ≤ length (now from)) × (n ≤ length (now to)) ⌝ }
-    ensures { λ _. ⌜ take n (now (to .exit)) ≡ take n (now (from .entry)) ⌝ }
-{
-    let mut i = 0;
-    while i < n {
-        to[i] = from[i];
-        i += 1;
-    }
 }

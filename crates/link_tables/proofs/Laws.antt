@@ -1,16 +1,16 @@
 -- Rows match as their rules do: event and state are one number, and it is equal where both are.
 -- Assumes nothing.
-use Prim.Native.Nat.{ℕ, suc, _+_, _*_, _/_, _%_, _≤_, _<_}
+use Prim.Native.Nat.{ℕ, _+_, _*_, _/_, _%_, _≤_, _<_}
 use native.Mathlib.Omega.{arith}
 use native.Mathlib.Decide.{ℕ-discrete}
 use mathlib.Core.Path.{_≡_, refl, sym, ap, _∙_}
 use mathlib.Core.Bool.{Bool, true, false, not, _&&_}
-use mathlib.Core.List.{List, [], _∷_, map}
+use mathlib.Core.List.{List}
 use lib.ListN.{take, getD}
 use lib.Dec.{leb, eqb}
 use borrow.Author.Tests.{eq-eqb, ne-eqb, eqb-true, le-leb, lt-leb}
 use Rattle.lists.specs.Lists.{lead}
-use Rattle.lists.proofs.Places.{lead-same}
+use Rattle.lists.proofs.Places.{lead-map, lead-same}
 use Rattle.rules.specs.Inner.{matches}
 use Rattle.link_tables.specs.Rows.{ruleIn, rulesIn, firstOf}
 
@@ -35,10 +35,6 @@ hit key value r = eqb (getD r 0 0) key && leb (getD r 1 0) value && leb value (g
 pub hit-is : (event state value : ℕ) (r : List ℕ) → state < 16 → hit (event * 16 + state) value r ≡ matches event state value (ruleIn r)
 unfolding matches ruleIn
 hit-is event state value r h = rw (key-same (getD r 0 0) event state h)
-
-lead-map : {A B : Type 0} (f : A → B) (p : B → Bool) (l : List A) → lead p (map f l) ≡ lead (λ x. p (f x)) l
-lead-map f p [] = refl
-lead-map f p (x ∷ l) = ap (λ (n : ℕ). elim (p (f x)) [ true ↦ suc n | false ↦ 0 ]) (lead-map f p l)
 
 -- The place that the code finds.
 pub found-at : (event state value : ℕ) (t : List (List ℕ)) (used r : ℕ) → state < 16

@@ -2,49 +2,29 @@
 -- Assumes nothing.
 use Prim.Native.Nat.{ℕ, _+_, _≤_, _<_}
 use native.Mathlib.Omega.{arith}
-use native.Mathlib.Numerals.{add-one}
-use mathlib.Core.Path.{_≡_, refl, sym, ap, ap₂, _∙_}
+use mathlib.Core.Path.{_≡_, sym, ap, ap₂, _∙_}
 use mathlib.Core.Bool.{true}
 use mathlib.Core.List.{List, [], _∷_, _++_, map, Memᴰ·map}
-use lib.ListN.{length, take, getD, set, length-map}
-use lib.Seq.{take-suc, take-append-seam, length-take-le, getD-take}
+use lib.ListN.{length, take, getD, length-map}
+use lib.Seq.{take-append-seam, length-take-le, getD-take}
 use lib.Dec.{leb}
 use borrow.Author.Tests.{leb-true}
 use Rattle.lists.specs.Lists.{all, pad}
 use Rattle.lists.proofs.Members.{all-in, get-in}
-use Rattle.lists.proofs.Places.{append-pad, length-pad}
+use Rattle.lists.proofs.Places.{map-snoc, take-more, map-more, length-pad}
 use Rattle.types.specs.declared.Entry.{Entry}
 use Rattle.types.specs.Capacities.{mostEntries, mostCopies}
 use Rattle.net_cells.specs.Cells.{cellOf, entryOf, zeroCell}
 use Rattle.net_layout.specs.Layout.{LaidOut}
 
 -- ---- a turn of the loop
-map-snoc : {A B : Type 0} (f : A → B) (l : List A) (a : A) → map f (l ++ a ∷ []) ≡ map f l ++ f a ∷ []
-map-snoc f [] a = refl
-map-snoc {B = B} f (x ∷ l) a = ap (λ (r : List B). f x ∷ r) (map-snoc f l a)
-
 module _ {A B : Type 0} (f : A → B) (d : A) (es : List A) (i : ℕ) (h : i < length es) where
-  take-more : take (i + 1) es ≡ take i es ++ getD es i d ∷ []
-  take-more = ap (λ (n : ℕ). take n es) (add-one i) ∙ take-suc es i d h
-
-  map-more : map f (take (i + 1) es) ≡ map f (take i es) ++ f (getD es i d) ∷ []
-  map-more = ap (map f) take-more ∙ map-snoc f (take i es) (getD es i d)
-
-  pub filled
-      : (n : ℕ) (z : B) (cs : List B) (w : B) → i < n → cs ≡ pad n z (map f (take i es)) → w ≡ f (getD es i d)
-      → set cs i w ≡ pad n z (map f (take (i + 1) es))
-  filled n z cs w k e q =
-      let l = map f (take i es) in
-      let v : length l ≡ i = length-map (take i es) f ∙ length-take-le i es (omega arith) in
-      ap₂ (λ (xs : List B) (j : ℕ). set xs j w) e (sym v) ∙ append-pad n l w z (omega arith)
-      ∙ ap (pad n z) (ap (λ (x : B). l ++ x ∷ []) q ∙ sym map-more)
-
   pub read-more
       : (g : B → A) → map g (map f (take i es)) ≡ take i es → g (f (getD es i d)) ≡ getD es i d
       → map g (map f (take (i + 1) es)) ≡ take (i + 1) es
   read-more g e q =
-      ap (map g) map-more ∙ map-snoc g (map f (take i es)) (f (getD es i d))
-      ∙ ap₂ (λ (l : List A) (x : A). l ++ x ∷ []) e q ∙ sym take-more
+      ap (map g) (map-more f d es i h) ∙ map-snoc g (map f (take i es)) (f (getD es i d))
+      ∙ ap₂ (λ (l : List A) (x : A). l ++ x ∷ []) e q ∙ sym (take-more d es i h)
 
 -- the count of a used cell can be read
 pub count-fits

@@ -11,7 +11,7 @@ use lib.Seq.{getD-take, length-take-le, take-set-lt}
 use lib.Dec.{leb}
 use borrow.Author.Tests.{le-leb, lt-leb, leb-true}
 use Rattle.lists.specs.Lists.{choose, all, lead, ins, del}
-use Rattle.lists.proofs.Places.{length-ins, lead-le}
+use Rattle.lists.proofs.Places.{length-ins, lead-le, map-del}
 use Rattle.lists.proofs.Members.{and-both}
 use Rattle.lists.proofs.Sorted.{All, all-at}
 use Rattle.types.specs.declared.Entry.{Entry}
@@ -25,7 +25,7 @@ use Rattle.types.specs.Capacities.{mostCopies}
 use Rattle.rules.specs.Outcome.{Outcome, done, refused, guard, Room}
 use Rattle.rules.specs.Network.{Net, single, again, lowered, fits, len}
 use Rattle.net_cells.specs.Cells.{zeroEntry, cellOf, entryOf}
-use Rattle.net_slots.specs.Search.{Moved}
+use Rattle.rows.specs.Moves.{Moved}
 use Rattle.net_slots.proofs.Tests.{all-ins, all-set}
 use Rattle.net_cells.proofs.Laws.{Narrow, back-all, narrow, narrow-all}
 use Rattle.net_rows.specs.Views.{entryList, netWith, roomOf, mostRoom, NetLaid, Holds, Left, Changed, takenAt, TakesOut}
@@ -38,13 +38,6 @@ module _ {A B : Type 0} (f : A → B) where
   map-ins zero a l = refl
   map-ins (suc at) a [] = refl
   map-ins (suc at) a (x ∷ l) = ap (λ (r : List B). f x ∷ r) (map-ins at a l)
-
-  map-del : (at : ℕ) (l : List A) → del at (map f l) ≡ map f (del at l)
-  unfolding del
-  map-del zero [] = refl
-  map-del zero (x ∷ l) = refl
-  map-del (suc at) [] = refl
-  map-del (suc at) (x ∷ l) = ap (λ (r : List B). f x ∷ r) (map-del at l)
 
   map-set : (at : ℕ) (a : A) (l : List A) → set (map f l) at (f a) ≡ map f (set l at a)
   map-set at a [] = refl

@@ -1,10 +1,10 @@
--- What a search by halves passes over, and what it asks; what a change of the cells leaves.
+-- What a search by halves passes over, and what it asks.
 -- Assumes nothing.
 use Prim.Native.Nat.{ℕ, _<_}
 use mathlib.Core.Path.{_≡_}
 use mathlib.Core.Bool.{Bool, true}
 use mathlib.Core.List.{List, []}
-use lib.ListN.{length, take, getD}
+use lib.ListN.{getD}
 use lib.Dec.{leb, ltb}
 use Rattle.types.specs.Order.{isLess}
 use Rattle.net_cells.specs.Cells.{cmpCell, flowOf}
@@ -19,7 +19,3 @@ passesOf BeforeFlow k x = ltb (flowOf x) (flowOf k)
 -- Of the first `used`, none passes after one that fails.
 pub record Once (p : List ℕ → Bool) (used : ℕ) (c : List (List ℕ)) : Type 0 where
   pub back : (i j : ℕ) → i < j → j < used → p (getD c j []) ≡ true → p (getD c i []) ≡ true
-
--- What a change leaves of cs: l in the first `used` places, and the room.
-abbrev pub Moved : ℕ → List (List ℕ) → List (List ℕ) → List (List ℕ) → Type 0
-Moved used l cs cs' = (take used cs' ≡ l) × (length cs' ≡ length cs)

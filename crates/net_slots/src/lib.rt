@@ -1,17 +1,17 @@
-// The first used cells of a lent slice: places found by halves, a cell put in and taken out, all where they lie. What
-// stands after the used count is not looked at, so that nothing grows with the room.
+// Places among the first used cells of a lent slice, found by halves. What stands after the used count is not looked at, so
+// that nothing grows with the room.
 use net_cells::TAGS;
 use net_cells::before;
 use net_cells::same;
 ghost use mathlib.Core.Path.{_≡_};
 ghost use mathlib.Core.Bool.{true, not};
-ghost use Prim.Native.Nat.{_+_, _-_, _/_, _≤_, _<_};
+ghost use Prim.Native.Nat.{_≤_};
 ghost use lib.ListN.{length, take};
 ghost use lib.Dec.{leb};
-ghost use Rattle.lists.specs.Lists.{chain, lead, ins, del};
+ghost use Rattle.lists.specs.Lists.{chain, lead};
 ghost use Rattle.types.specs.Order.{isEqual};
 ghost use Rattle.net_cells.specs.Cells.{cmpCell, flowOf};
-ghost use Rattle.net_slots.specs.Search.{passesOf, Once, Moved};
+ghost use Rattle.net_slots.specs.Search.{passesOf, Once};
 
 // What a search passes over: cells that stand before k, of a flow up to that of k, or of a flow before it.
 pub enum Look {
@@ -66,29 +66,4 @@ pub fn first_equal(c: &[[u64; 4]], used: usize, k: [u64; 4]) -> usize
         i += 1;
     }
     i
-}
-
-// k at a place; what stood there and after it, up to the count, goes one place on.
-pub fn insert_at(c: &mut [[u64; 4]], used: usize, at: usize, k: [u64; 4])
-    requires { ⌜ (at ≤ used) × (used < length (now c)) ⌝ }
-    ensures { λ _. ⌜ Moved (used + 1) (ins at k (take used (now (c .entry)))) (now (c .entry)) (now (c .exit)) ⌝ }
-{
-    let mut i = used;
-    while at < i {
-        c[i] = c[i - 1];
-        i -= 1;
-    }
-    c[at] = k;
-}
-
-// What stands at a place is gone; what stood after it goes one place down.
-pub fn remove_at(c: &mut [[u64; 4]], used: usize, at: usize)
-    requires { ⌜ (at < used) × (used ≤ length (now c)) ⌝ }
-    ensures { λ _. ⌜ Moved (used - 1) (del at (take used (now (c .entry)))) (now (c .entry)) (now (c .exit)) ⌝ }
-{
-    let mut i = at;
-    while i + 1 < used {
-        c[i] = c[i + 1];
-        i += 1;
-    }
 }

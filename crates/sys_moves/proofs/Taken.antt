@@ -44,6 +44,7 @@ use Rattle.sys_reacts.proofs.Laws.{goes-on, refuses}
 use Rattle.sys_reacts.proofs.Deliver.{deliver-is}
 use Rattle.sys_rows.specs.Rows.{RowsLaid, Settled, Noticed, Kept}
 use Rattle.sys_rows.proofs.Laws.{tail-at, as-stored, stored-laid}
+use Rattle.sys_rows.proofs.Sources.{noticed-word}
 use Rattle.sys_moves.specs.Views.{Rows, actorWith, running, takenIn, Fine, Acted}
 use Rattle.sys_moves.proofs.Laws.{places-are, outputs, refused-output, asked-few, take-all}
 
@@ -53,16 +54,16 @@ module _ (source : Id) (number : Number) (os : List InnerCommand) (w : List ℕ)
   noticed-laid = note .laid p laid
 
   pub noticed-places : getD w 1 0 + sends os ≤ mostPending → getD w1 1 0 + sends os ≤ mostPending
-  noticed-places h = let z = note .pending in omega arith
+  noticed-places h = let z = noticed-word _ _ w w1 note 1 (omega arith) (λ z. omega arith) in omega arith
 
   pub noticed-numbers : getD w 0 0 + sends os ≤ 18446744073709551615 → getD w1 0 0 + sends os ≤ 18446744073709551615
-  noticed-numbers h = let z = note .numbers in omega arith
+  noticed-numbers h = let z = noticed-word _ _ w w1 note 0 (omega arith) (λ z. omega arith) in omega arith
 
   pub noticed-settled : (t s : ℕ) (w' : List ℕ) (p' : List (List ℕ)) → Settled (noted os (durableIn w1 p)) t s w1 w' p'
       → Settled (noted os (withTaken source number (durableIn w p))) t s w w' p'
   noticed-settled t s w' p' put = record {
     durable = put .durable ∙ ap (noted os) (note .durable p);
-    crashed = put .crashed ∙ note .crashed;
+    crashed = put .crashed ∙ noticed-word _ _ w w1 note 5 (omega arith) (λ z. omega arith);
     timers = put .timers;
     state = put .state;
     laid = put .laid;

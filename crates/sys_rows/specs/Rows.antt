@@ -5,6 +5,8 @@ use mathlib.Core.Path.{_≡_}
 use mathlib.Core.Option.{Option, none, some}
 use mathlib.Core.List.{List}
 use lib.ListN.{length, take, drop, getD, set, replicate}
+use lib.Dec.{leb}
+use Rattle.lists.specs.Lists.{choose}
 use Rattle.types.specs.Capacities.{mostPending, mostActors, lastState}
 use Rattle.types.specs.declared.Rule.{Rule}
 use Rattle.rules.specs.Link.{Durable, withTaken}
@@ -59,11 +61,12 @@ pub record Kept (w : List ℕ) (p : List (List ℕ)) (k : List ℕ) (q : List (L
   pub records : take (getD w 1 0) q ≡ take (getD w 1 0) p
   pub places : length q ≡ mostPending
 
--- A number last taken is noted: the durable part is the rules' one, and the marks and the pending count stay. Rows that were laid out are so still.
+-- The row with a number last taken: it stands at the place of its source, which is counted. All else stays.
+abbrev pub takenRow : ℕ → ℕ → List ℕ → List ℕ
+takenRow source number w = set (set w (8 + source) number) 4 (choose (leb (getD w 4 0) source) (source + 1) (getD w 4 0))
+
+-- A number last taken is noted: that is the row, and the durable part is the rules' one. Rows that were laid out are so still.
 pub record Noticed (source number : ℕ) (w w' : List ℕ) : Type 0 where
+  pub row : w' ≡ takenRow source number w
   pub durable : (p : List (List ℕ)) → durableIn w' p ≡ withTaken (record { 0 = source }) (record { 0 = number }) (durableIn w p)
-  pub pending : getD w' 1 0 ≡ getD w 1 0
-  pub numbers : getD w' 0 0 ≡ getD w 0 0
-  pub crashed : getD w' 5 0 ≡ getD w 5 0
-  pub tail : TailLaid (drop 4 w')
   pub laid : (p : List (List ℕ)) → RowsLaid w p → RowsLaid w' p

@@ -2,8 +2,8 @@
 use link_notes::note;
 use link_rows::RECORD;
 use link_rows::ROW;
-use link_rows::copy_records;
 use link_rows::drop_acked;
+use rows::copy_rows;
 use types::Id;
 use types::MOST_PENDING;
 ghost use mathlib.Core.Path.{_≡_};
@@ -28,7 +28,7 @@ pub fn store(
 {
     *kept = *live;
     kept[5] = 1;
-    copy_records(pend, stored, live[1] as usize);
+    copy_rows(pend, stored, live[1] as usize);
 }
 
 // The live row of an actor before any start.
@@ -41,11 +41,11 @@ pub fn fresh_row() -> [u64; ROW]
 }
 
 // Timers and state are put in place.
-fn put_marks(live: &mut [u64], timers: u32, state: u64)
+pub fn put_marks(live: &mut [u64], timers: u64, state: u64)
     requires { ⌜ length (now live) ≡ rowSize ⌝ }
     ensures { λ _. ⌜ now (live .exit) ≡ set (set (now (live .entry)) 6 timers) 7 state ⌝ }
 {
-    live[6] = timers as u64;
+    live[6] = timers;
     live[7] = state;
 }
 
@@ -66,7 +66,7 @@ pub fn settle(
         (now (live .entry)) (now (live .exit)) (now (pend .exit)) ⌝ }
 {
     note(live, pend, row, source, value);
-    put_marks(live, timers, state);
+    put_marks(live, timers as u64, state);
 }
 
 // A number is acked.

@@ -3,11 +3,12 @@ use answers::Answer;
 use answers::is_done;
 use link_rows::RECORD;
 use link_rows::ROW;
-use link_rows::copy_records;
 use link_tables::first_match;
 use link_timers::Timers;
 use net_rows::Sent;
+use rows::copy_rows;
 use sys_moves::by_rule;
+use sys_rows::put_marks;
 use types::Id;
 use types::Kind;
 use types::MOST_ENTRIES;
@@ -16,7 +17,7 @@ use types::MOST_RULES;
 use types::NETWORK;
 ghost use mathlib.Core.Path.{_≡_};
 ghost use Prim.Native.Nat.{ℕ, _<_};
-ghost use lib.ListN.{length, getD, set};
+ghost use lib.ListN.{length, getD};
 ghost use Rattle.types.specs.Capacities.{network};
 ghost use Rattle.types.specs.declared.Action.the-variants.{Recover};
 ghost use Rattle.rules.specs.Timers.{setTimer};
@@ -28,18 +29,8 @@ ghost use Rattle.sys_moves.specs.Views.{rowsOf, Fine, Stepped, Woken};
 ghost use Rattle.sys_wake.specs.Starts.{begun, Loaded, savedIn, startRow};
 
 // ---- what is stored becomes live
-// Mark and timers are put in place, and state 0.
-fn put_marks(live: &mut [u64], crashed: u64, timers: u64)
-    requires { ⌜ length (now live) ≡ rowSize ⌝ }
-    ensures { λ _. ⌜ now (live .exit) ≡ set (set (set (now (live .entry)) 5 crashed) 6 timers) 7 0 ⌝ }
-{
-    live[5] = crashed;
-    live[6] = timers;
-    live[7] = 0;
-}
-
 // The live rows become what is stored, or the fresh durable part where nothing is. Mark and timers stay.
-pub fn load(
+fn load(
     live: &mut [u64; ROW],
     pend: &mut [[u64; RECORD]; MOST_PENDING],
     kept: &[u64; ROW],
@@ -53,12 +44,14 @@ pub fn load(
     if kept[5] == 0 {
         *live = [0u64; ROW];
         live[0] = 1;
-        put_marks(live, crashed, timers);
+        live[5] = crashed;
+        put_marks(live, timers, 0);
         return;
     }
     *live = *kept;
-    put_marks(live, crashed, timers);
-    copy_records(stored, pend, kept[1] as usize);
+    live[5] = crashed;
+    put_marks(live, timers, 0);
+    copy_rows(stored, pend, kept[1] as usize);
 }
 
 // ---- the rule of a start

@@ -2,19 +2,19 @@
 -- Assumes nothing.
 use borrow.Author.Needs.{needs}
 use native.Mathlib.Omega.{arith}
-use Prim.Native.Nat.{ℕ, _≤_, _-_}
+use Prim.Native.Nat.{_≤_, _-_}
 use mathlib.Core.Path.{_≡_, refl, sym, ap, _∙_}
-use mathlib.Core.List.{List, map}
-use lib.ListN.{length, take, getD, set, replicate}
+use mathlib.Core.List.{map}
+use lib.ListN.{length, take, replicate}
 use lib.Seq.{length-take-le}
 use Rattle.lists.specs.Lists.{pad}
-use Rattle.lists.proofs.Places.{length-mapped}
+use Rattle.lists.proofs.Places.{fill-more, length-mapped}
 use Rattle.types.specs.Capacities.{mostPending}
 use Rattle.link_durable.specs.Views.{zeroPending}
 use Rattle.link_rows.specs.Rows.{Sendable}
 use Rattle.link_rows.proofs.Heads.{sendable-more}
 use Rattle.link_layout.specs.Rows.{recordOf, noRecord}
-use Rattle.link_layout.proofs.Laws.{grown, filled, counts}
+use Rattle.link_layout.proofs.Laws.{filled, counts}
 use Rattle.link_layout.proofs.pending_rows.Statement.{statement}
 use Rattle.link_layout.proofs.pending_rows.Tie as tie
 
@@ -61,9 +61,7 @@ loop-again c =
     let m = ap length (l .inv .2) ∙ filled recordOf mostPending noRecord es (l .i) (omega arith) in (
       l .inv .0,
       omega arith,
-      ap (λ (q : List ℕ). set (l .rows) (l .i) q) (r .0)
-          ∙ ap (λ (q : List (List ℕ)). set q (l .i) (recordOf (getD es (l .i) zeroPending))) (l .inv .2)
-          ∙ grown recordOf mostPending noRecord es zeroPending (l .i) (omega arith) (omega arith),
+      fill-more recordOf zeroPending es (l .i) (omega arith) mostPending noRecord (l .rows) _ (omega arith) (l .inv .2) (r .0),
       rw (r .0) (sendable-more (l .rows) (l .i) _ (omega arith) (l .inv .3) (r .1) (r .2)),
     )
 

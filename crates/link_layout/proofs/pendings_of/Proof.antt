@@ -3,15 +3,15 @@
 use borrow.Author.Needs.{needs}
 use native.Mathlib.Omega.{arith}
 use Prim.Native.Nat.{_≤_, _-_}
-use mathlib.Core.Path.{_≡_, ap, _∙_}
-use mathlib.Core.List.{List, [], map}
-use lib.ListN.{take, getD, set, replicate}
+use mathlib.Core.Path.{_≡_, ap}
+use mathlib.Core.List.{[], map}
+use lib.ListN.{take, replicate}
 use Rattle.lists.specs.Lists.{pad}
+use Rattle.lists.proofs.Places.{fill-more}
 use Rattle.types.specs.Capacities.{mostPending}
-use Rattle.types.specs.declared.Pending.{Pending}
 use Rattle.link_durable.specs.Views.{zeroPending}
 use Rattle.link_rows.specs.Rows.{pendingIn}
-use Rattle.link_layout.proofs.Laws.{grown, pendings-read}
+use Rattle.link_layout.proofs.Laws.{pendings-read}
 use Rattle.link_layout.proofs.pendings_of.Statement.{statement}
 use Rattle.link_layout.proofs.pendings_of.Tie as tie
 
@@ -79,9 +79,7 @@ loop-again c =
     let l = c .before .before .before .before .before .loop in
     let ps = c .before .before .before .before .before .before .before .args .rows .now in (
       omega arith,
-      ap (λ (q : Pending). set (l .records) (l .i) q) (c .pending-of2 .ensures)
-          ∙ ap (λ (q : List Pending). set q (l .i) (pendingIn (getD ps (l .i) []))) (l .inv .1)
-          ∙ grown pendingIn mostPending zeroPending ps [] (l .i) (omega arith) (omega arith),
+      fill-more pendingIn [] ps (l .i) (omega arith) mostPending zeroPending (l .records) _ (omega arith) (l .inv .1) (c .pending-of2 .ensures),
     )
 
 returns : tie.Need-returns Inv-loop μ-loop

@@ -2,17 +2,17 @@
 -- Assumes nothing.
 use borrow.Author.Needs.{needs}
 use native.Mathlib.Omega.{arith}
-use Prim.Native.Nat.{ℕ, _≤_, _-_}
-use mathlib.Core.Path.{_≡_, sym, ap, _∙_}
-use mathlib.Core.List.{List, map}
-use lib.ListN.{take, drop, getD, set, length-drop}
+use Prim.Native.Nat.{_≤_, _-_}
+use mathlib.Core.Path.{_≡_, sym, ap}
+use mathlib.Core.List.{map}
+use lib.ListN.{take, drop, length-drop}
 use lib.Seq.{getD-drop}
 use Rattle.lists.specs.Lists.{pad}
+use Rattle.lists.proofs.Places.{fill-more}
 use Rattle.types.specs.Capacities.{mostActors}
-use Rattle.types.specs.declared.Number.{Number}
 use Rattle.rules.specs.Link.{untaken}
 use Rattle.link_rows.specs.Rows.{numberIn}
-use Rattle.link_layout.proofs.Laws.{grown, taken-read}
+use Rattle.link_layout.proofs.Laws.{taken-read}
 use Rattle.link_layout.proofs.taken_of.Statement.{statement}
 use Rattle.link_layout.proofs.taken_of.Tie as tie
 
@@ -53,9 +53,8 @@ loop-again c =
     let w = c .before .before .before .args .row .now in
     let n = length-drop 8 w in (
       omega arith,
-      ap (λ (k : ℕ). set (l .last) (l .i) (numberIn k)) (sym (getD-drop 8 w (l .i) 0))
-          ∙ ap (λ (q : List Number). set q (l .i) (numberIn (getD (drop 8 w) (l .i) 0))) (l .inv .1)
-          ∙ grown numberIn mostActors untaken (drop 8 w) 0 (l .i) (omega arith) (omega arith),
+      fill-more numberIn 0 (drop 8 w) (l .i) (omega arith) mostActors untaken (l .last) _ (omega arith) (l .inv .1)
+          (ap numberIn (sym (getD-drop 8 w (l .i) 0))),
     )
 
 returns : tie.Need-returns Inv-loop μ-loop

@@ -2,16 +2,15 @@
 -- Assumes nothing.
 use borrow.Author.Needs.{needs}
 use native.Mathlib.Omega.{arith}
-use Prim.Native.Nat.{ℕ, _≤_, _-_, _+_}
-use mathlib.Core.Path.{_≡_, sym, ap, _∙_}
-use mathlib.Core.List.{List}
-use lib.ListN.{length, take, getD, set}
+use Prim.Native.Nat.{_≤_, _-_}
+use mathlib.Core.Path.{_≡_, sym}
+use lib.ListN.{length, take}
 use Rattle.lists.specs.Lists.{pad}
 use Rattle.lists.proofs.Places.{length-mapped}
 use Rattle.types.specs.Capacities.{mostActors}
 use Rattle.rules.specs.Link.{untaken}
 use Rattle.link_layout.specs.Rows.{takenOf}
-use Rattle.link_layout.proofs.Laws.{grown-after}
+use Rattle.link_layout.proofs.Laws.{fill-after}
 use Rattle.link_layout.proofs.taken_row.Statement.{statement}
 use Rattle.link_layout.proofs.taken_row.Tie as tie
 
@@ -52,8 +51,7 @@ loop-again c =
     let es = c .before .before .before .before .args .t .last in
     let n : length es ≡ mostActors = search (needs, length-mapped) in (
       omega arith,
-      ap (λ (q : List ℕ). set q (8 + l .i) (getD es (l .i) untaken .0)) (l .inv .1)
-          ∙ grown-after es untaken (l .i) (omega arith) (omega arith),
+      fill-after es untaken (l .i) (l .row) (omega arith) (omega arith) (l .inv .1),
     )
 
 returns : tie.Need-returns Inv-loop μ-loop

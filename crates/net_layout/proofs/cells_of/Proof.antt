@@ -7,10 +7,10 @@ use mathlib.Core.Path.{_≡_, refl, sym, ap, _∙_}
 use mathlib.Core.List.{map}
 use lib.ListN.{length, take}
 use Rattle.lists.specs.Lists.{pad}
-use Rattle.lists.proofs.Places.{length-mapped}
+use Rattle.lists.proofs.Places.{fill-more, length-mapped}
 use Rattle.types.specs.Capacities.{mostEntries}
 use Rattle.net_cells.specs.Cells.{cellOf, entryOf, zeroCell, zeroEntry}
-use Rattle.net_layout.proofs.Laws.{filled, read-more}
+use Rattle.net_layout.proofs.Laws.{read-more}
 use Rattle.net_layout.proofs.cells_of.Statement.{statement}
 use Rattle.net_layout.proofs.cells_of.Tie as tie
 
@@ -53,7 +53,7 @@ loop-again c =
     let w = c .cell-with in
     let room : length es ≡ mostEntries = search (needs, length-mapped) in (
       search needs,
-      filled cellOf zeroEntry es (l .i) (omega arith) mostEntries zeroCell (l .cs) (w .result) (omega arith) (l .inv .1) (w .ensures .cell),
+      fill-more cellOf zeroEntry es (l .i) (omega arith) mostEntries zeroCell (l .cs) (w .result) (omega arith) (l .inv .1) (w .ensures .cell),
       read-more cellOf zeroEntry es (l .i) (omega arith) entryOf (l .inv .2) (ap entryOf (sym (w .ensures .cell)) ∙ w .ensures .back),
     )
 

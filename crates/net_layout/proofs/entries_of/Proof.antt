@@ -7,9 +7,10 @@ use mathlib.Core.Path.{_≡_}
 use mathlib.Core.List.{map, []}
 use lib.ListN.{take}
 use Rattle.lists.specs.Lists.{pad}
+use Rattle.lists.proofs.Places.{fill-more}
 use Rattle.types.specs.Capacities.{mostEntries}
 use Rattle.net_cells.specs.Cells.{entryOf, zeroEntry}
-use Rattle.net_layout.proofs.Laws.{filled, count-fits}
+use Rattle.net_layout.proofs.Laws.{count-fits}
 use Rattle.net_layout.proofs.entries_of.Statement.{statement}
 use Rattle.net_layout.proofs.entries_of.Tie as tie
 
@@ -55,7 +56,7 @@ loop-again c =
     let s = c .before .before .before .before .before in
     let w = c .entry-of in (
       search needs,
-      filled entryOf [] (s .args .c .now) (l .i) (omega arith) mostEntries zeroEntry (l .es) (w .result) (omega arith) (l .inv .1) (w .ensures),
+      fill-more entryOf [] (s .args .c .now) (l .i) (omega arith) mostEntries zeroEntry (l .es) (w .result) (omega arith) (l .inv .1) (w .ensures),
     )
 
 returns : tie.Need-returns Inv-loop μ-loop

@@ -31,20 +31,20 @@ returns c =
 put-marks-requires-2 : tie.Need-put-marks-requires-2
 put-marks-requires-2 c κs = search needs
 
-element-copy-out-copy-records : tie.Need-element-copy-out-copy-records
-element-copy-out-copy-records c = search needs
+element-copy-out-copy-rows : tie.Need-element-copy-out-copy-rows
+element-copy-out-copy-rows c = search needs
 
-copy-records-requires : tie.Need-copy-records-requires
-copy-records-requires c κs = search needs
+copy-rows-requires : tie.Need-copy-rows-requires
+copy-rows-requires c κs = search needs
 
 returns-2 : tie.Need-returns-2
 returns-2 c =
     let s = c .before .before .before .before .before .before .before .before .before .before .before in
     let a = s .args in
-    let p' = c .copy-records .last .1 .0 in
+    let p' = c .copy-rows .last .1 .0 in
     let places : length p' ≡ mostPending = search (needs, s .pre .0 .places) in
     rw (c .before .before .before .before .put-marks2 .ensures)
-    (loaded-stored (a .live .now) (a .kept .now) (a .pend .now) (a .stored .now) (s .pre .0) (s .pre .1) p' (c .copy-records .ensures) places
+    (loaded-stored (a .live .now) (a .kept .now) (a .pend .now) (a .stored .now) (s .pre .0) (s .pre .1) p' (c .copy-rows .ensures) places
     (c .before .before .before .before .before .before .before .if1 .left))
 
 pub load-spec : {M : Type 1} → statement M
@@ -58,6 +58,6 @@ load-spec =
     put-marks-requires
     returns
     put-marks-requires-2
-    element-copy-out-copy-records
-    copy-records-requires
+    element-copy-out-copy-rows
+    copy-rows-requires
     returns-2)

@@ -1,4 +1,4 @@
--- Each turn moves the next cell one place down. So what is left when place i is taken out stays the same.
+-- Each turn moves the next row one place down. So what is left when place i is taken out stays the same.
 -- Assumes nothing.
 use borrow.Author.Needs.{needs}
 use native.Mathlib.Omega.{arith}
@@ -8,9 +8,9 @@ use lib.ListN.{length}
 use mathlib.Core.List.{[]}
 use Rattle.lists.specs.Lists.{del}
 use Rattle.lists.proofs.Places.{del-turn}
-use Rattle.net_slots.proofs.Laws.{removed}
-use Rattle.net_slots.proofs.remove_at.Statement.{statement}
-use Rattle.net_slots.proofs.remove_at.Tie as tie
+use Rattle.rows.proofs.Laws.{removed}
+use Rattle.rows.proofs.remove_at.Statement.{statement}
+use Rattle.rows.proofs.remove_at.Tie as tie
 
 abbrev Inv-loop : tie.InvT-loop
 Inv-loop c₀ used at i₀ c i = (at ≤ i) × (i < used) × (length c ≡ length c₀) × (del i c ≡ del at c₀)

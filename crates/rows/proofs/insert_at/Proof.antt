@@ -1,15 +1,15 @@
--- Each turn moves a cell one place on. So what is left when place i is taken out stays the same.
+-- Each turn moves a row one place on. So what is left when place i is taken out stays the same.
 -- Assumes nothing.
 use borrow.Author.Needs.{needs}
 use native.Mathlib.Omega.{arith}
-use Prim.Native.Nat.{_≤_, _-_}
+use Prim.Native.Nat.{_≤_}
 use mathlib.Core.Path.{_≡_, _∙_}
 use lib.ListN.{length}
 use mathlib.Core.List.{[]}
 use Rattle.lists.specs.Lists.{del}
-use Rattle.net_slots.proofs.Laws.{up-turn, inserted}
-use Rattle.net_slots.proofs.insert_at.Statement.{statement}
-use Rattle.net_slots.proofs.insert_at.Tie as tie
+use Rattle.rows.proofs.Laws.{up-turn, inserted}
+use Rattle.rows.proofs.insert_at.Statement.{statement}
+use Rattle.rows.proofs.insert_at.Tie as tie
 
 abbrev Inv-loop : tie.InvT-loop
 Inv-loop c₀ used at k i₀ c i = (at ≤ i) × (i ≤ used) × (length c ≡ length c₀) × (del i c ≡ del used c₀)

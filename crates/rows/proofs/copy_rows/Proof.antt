@@ -1,13 +1,14 @@
--- `link_rows::copy_records` meets its contract. Below i the records are those of the other, and one more is put at i.
+-- `rows::copy_rows` meets its contract. Below i the rows are those of the other, and one more is put at i.
 -- Assumes nothing.
 use Prim.Native.Nat.{_≤_, _-_}
 use native.Mathlib.Omega.{arith}
 use mathlib.Core.Path.{_≡_, refl}
+use mathlib.Core.List.{[]}
 use lib.ListN.{length, take}
 use borrow.Author.Needs.{needs}
-use Rattle.link_rows.proofs.Heads.{copied-more}
-use Rattle.link_rows.proofs.copy_records.Statement.{statement}
-use Rattle.link_rows.proofs.copy_records.Tie as tie
+use Rattle.rows.proofs.Laws.{copied-more}
+use Rattle.rows.proofs.copy_rows.Statement.{statement}
+use Rattle.rows.proofs.copy_rows.Tie as tie
 
 abbrev Inv-loop : tie.InvT-loop
 Inv-loop from to₀ n i₀ to i = (i ≤ n) × (length to ≡ length to₀) × (take i to ≡ take i from)
@@ -40,7 +41,7 @@ loop-again : tie.Need-loop-again Inv-loop μ-loop
 loop-again c =
     let a = c .before .before .before .args in
     let l = c .before .before .loop in
-    (search needs, search needs, copied-more (a .from .now) (l .to) (l .i) (omega arith) (omega arith) (l .inv .2))
+    (search needs, search needs, copied-more (a .from .now) (l .to) (l .i) [] (omega arith) (omega arith) (l .inv .2))
 
 same-length : tie.Need-same-length Inv-loop μ-loop
 same-length c = search needs
@@ -51,8 +52,8 @@ returns c =
     let e : l .i ≡ c .before .before .args .n = omega arith in
     rw e at (l .inv .2)
 
-pub copy-records-spec : {M : Type 1} → statement M
-copy-records-spec =
+pub copy-rows-spec : {M : Type 1} → statement M
+copy-rows-spec =
     tie.close
     (tie.spec
     Inv-loop
