@@ -46,7 +46,7 @@ returns-2 c =
     let at = c .before .before .before .before .pending-place in
     let gone = c .before .remove-at in (
       turned-ack w (s .args .pend .now) (s .args .number) (s .pre .0) (s .pre .1) (at .result) (at .ensures) (c .before .before .before .if1 .left)
-          (gone .last .0) (gone .ensures),
+          (gone .last .0) (gone .ensures .0),
       omega (arith, count-set w (getD w 1 0 - 1) (s .pre .0)),
     )
 
