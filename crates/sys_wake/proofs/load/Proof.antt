@@ -18,6 +18,9 @@ element-copy-out-if1 c = search needs
 element-write-live : tie.Need-element-write-live
 element-write-live c = search needs
 
+element-write-live-2 : tie.Need-element-write-live-2
+element-write-live-2 c = search needs
+
 put-marks-requires : tie.Need-put-marks-requires
 put-marks-requires c κs = search needs
 
@@ -27,6 +30,9 @@ returns c =
     let a = s .args in
     rw (c .put-marks .ensures)
     (loaded-fresh (a .live .now) (a .kept .now) (a .pend .now) (a .stored .now) (s .pre .0) (s .pre .1) (c .before .before .before .if1 .taken))
+
+element-write-live-3 : tie.Need-element-write-live-3
+element-write-live-3 c = search needs
 
 put-marks-requires-2 : tie.Need-put-marks-requires-2
 put-marks-requires-2 c κs = search needs
@@ -55,8 +61,10 @@ load-spec =
     element-copy-out-timers
     element-copy-out-if1
     element-write-live
+    element-write-live-2
     put-marks-requires
     returns
+    element-write-live-3
     put-marks-requires-2
     element-copy-out-copy-rows
     copy-rows-requires
