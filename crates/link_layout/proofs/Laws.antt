@@ -30,7 +30,8 @@ pub fill-after : (es : List Number) (d : Number) (i : ℕ) (r : List ℕ) → i 
     → set r (8 + i) (getD es i d .0) ≡ takenOf (take (i + 1) es)
 fill-after es d i r h k q =
     let e : 8 + i ≡ suc (suc (suc (suc (suc (suc (suc (suc i))))))) = omega arith in
-    rw (q, e) (ap (λ (l : List ℕ). 0 ∷ 0 ∷ 0 ∷ 0 ∷ 0 ∷ 0 ∷ 0 ∷ 0 ∷ l) (fill-more wordOf d es i k (rowSize - 8) 0 _ _ (omega arith) refl refl))
+    rw (q, e) (ap (λ (l : List ℕ). 0 ∷ 0 ∷ 0 ∷ 0 ∷ 0 ∷ 0 ∷ 0 ∷ 0 ∷ l)
+    (fill-more wordOf d es i k (rowSize - 8) 0 _ _ (omega arith) refl refl))
 
 pub filled : {A B : Type 0} (f : A → B) (n : ℕ) (z : B) (es : List A) (i : ℕ) → i ≤ n → length (pad n z (map f (take i es))) ≡ n
 filled f n z es i h = let a = length-map (take i es) f in let b = length-take i es in length-pad n z (map f (take i es)) (omega arith)
