@@ -22,7 +22,8 @@ use Rattle.net_rows.specs.Views.{netOf, roomOf}
 use Rattle.sys_seat.specs.Seat.{Around, holding}
 use Rattle.sys_seat.proofs.Seats.{held}
 use Rattle.sys_emits.specs.declared.Emitted.{Emitted}
-use Rattle.sys_reacts.specs.Views.{lastAfter, Delivered}
+use Rattle.sys_reacts.specs.declared.First.the-variants as first
+use Rattle.sys_reacts.specs.Views.{lastAfter, Safe}
 use Rattle.sys_rows.specs.Rows.{actorOf}
 use Rattle.sys_moves.specs.Views.{Rows, actorAt, passedBy, Fine, Acted}
 
@@ -44,7 +45,7 @@ module _ (c : Room) (i : Id) (hall : Around i) (a : Actor) where
   same-actor r m (refused k) n b e = sym (held i hall n b) ∙ sym (ap seated e)
 
 module _ (kind : Kind) (e : Envelope) (v : Number) (used n : ℕ) (x : Rows) (fine : Fine kind used n x) (r : Emitted) (cs' : List (List ℕ))
-    (got : Delivered kind e (Send (e .src) (Ack v) ∷ []) (x .cells) used n (getD (x .live) 6 0) r cs') where
+    (got : Safe kind (e .dst) (first.Message e v) (Send (e .src) (Ack v) ∷ []) (x .cells) used n (getD (x .live) 6 0) r cs') where
   abbrev y : Rows
   y = record { cells = cs'; live = x .live; pend = x .pend; kept = x .kept; stored = x .stored }
 

@@ -136,7 +136,7 @@ module _ (me : Id) (kind : Kind) (os : List InnerCommand) (t s used n : ℕ) (x 
 
   module _ (nums : getD w 0 0 + sends os ≤ 18446744073709551615) (plcs : getD w 1 0 + sends os ≤ mostPending) (short : length os ≤ mostCommands)
       (r : Emitted) (cs' : List (List ℕ)) (source : Id)
-      (safe : Safe kind me (take mostTold (frontOf source first.Nothing ++ asked (getD w 0 0) os)) (x .cells) used n t r cs') where
+      (safe : Safe kind me first.Nothing (take mostTold (frontOf source first.Nothing ++ asked (getD w 0 0) os)) (x .cells) used n t r cs') where
     all-run : take mostTold (frontOf source first.Nothing ++ asked (getD w 0 0) os) ≡ asked (getD w 0 0) os
     unfolding frontOf
     all-run = let z = asked-few (getD w 0 0) os in take-all mostTold (asked (getD w 0 0) os) (omega arith)
@@ -166,8 +166,7 @@ module _ (me : Id) (kind : Kind) (os : List InnerCommand) (t s used n : ℕ) (x 
         record {
           fine = record { net = safe .ready; room = safe .room ∙ fine .room; live = fine .live; kept = fine .kept };
           runs = λ a. absurd (not-both (isDone (r .answer)) a g);
-          stops =
-              λ a hall last rs. split hall last rs _ (safe .stops g hall last (b rs)) ∙ ap (λ (y : Answer). refused (answerNumber y)) (sym (safe .full g));
+          stops = λ a hall last rs. split hall last rs _ (safe .stops g hall last (b rs));
           same = λ a. (λ j. record { cells = z .0 j; live = w; pend = x .pend; kept = x .kept; stored = x .stored }, z .1, z .2);
         }
 

@@ -106,7 +106,7 @@ zero-sends r source value e = rw e
 pub zero-number : (r : List ℕ) (source : Id) (value : ℕ) → getD r 5 0 ≡ 0 → 0 + sends (orders r source value) ≤ 18446744073709551615
 zero-number r source value e = let z = zero-sends r source value e in omega arith
 
-pub zero-cmds : (r : List ℕ) (source : Id) (v : Number) → getD r 5 0 ≡ 0
-    → take mostTold (frontOf source (first.Acked v) ++ asked 0 (orders r source 0)) ≡ Send source (Ack v) ∷ []
+pub zero-cmds : (r : List ℕ) (source : Id) (e : Envelope) (v : Number) → getD r 5 0 ≡ 0
+    → take mostTold (frontOf source (first.Message e v) ++ asked 0 (orders r source 0)) ≡ Send source (Ack v) ∷ []
 unfolding frontOf orders asked
-zero-cmds r source v e = rw e
+zero-cmds r source e v z = rw z

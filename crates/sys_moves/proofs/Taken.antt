@@ -38,8 +38,9 @@ use Rattle.sys_seat.proofs.Seats.{run-append, run-save}
 use Rattle.sys_emits.specs.declared.Emitted.{Emitted}
 use Rattle.sys_emits.specs.Views.{sysIn}
 use Rattle.sys_emits.proofs.Laws.{not-both}
+use Rattle.sys_reacts.specs.declared.First.{First}
 use Rattle.sys_reacts.specs.declared.First.the-variants as first
-use Rattle.sys_reacts.specs.Views.{limitsOf, refusalOf, frontOf, lastAfter, taking, there, Delivered}
+use Rattle.sys_reacts.specs.Views.{limitsOf, refusalOf, frontOf, lastAfter, following, there, Safe}
 use Rattle.sys_reacts.proofs.Laws.{goes-on, refuses}
 use Rattle.sys_reacts.proofs.Deliver.{deliver-is}
 use Rattle.sys_rows.specs.Rows.{RowsLaid, Settled, Noticed, Kept}
@@ -104,6 +105,9 @@ module _ (kind : Kind) (e : Envelope) (v : Number) (os : List InnerCommand) (s u
 
   abbrev d' : Durable
   d' = noted os d
+
+  abbrev message : First
+  message = first.Message e v
 
   abbrev o : Around (e .dst) → LastMessage → List Rule → Outcome Sys
   o = takenIn kind e v os s used x
@@ -182,11 +186,11 @@ module _ (kind : Kind) (e : Envelope) (v : Number) (os : List InnerCommand) (s u
   -- ---- where numbers and places are enough
   module _ (nums : getD w 0 0 + sends os ≤ 18446744073709551615) (plcs : getD w 1 0 + sends os ≤ mostPending) (short : length os ≤ mostCommands)
       (r : Emitted) (cs' : List (List ℕ))
-      (got : Delivered kind e (take mostTold (frontOf (e .src) (first.Acked v) ++ asked (getD w 0 0) os)) (x .cells) used n (getD w 6 0) r cs') where
+      (got : Safe kind (e .dst) message (take mostTold (frontOf (e .src) message ++ asked (getD w 0 0) os)) (x .cells) used n (getD w 6 0) r cs') where
     abbrev cmds : List Command
     cmds = Send (e .src) (Ack v) ∷ asked (getD w 0 0) os
 
-    all-run : take mostTold (frontOf (e .src) (first.Acked v) ++ asked (getD w 0 0) os) ≡ cmds
+    all-run : take mostTold (frontOf (e .src) message ++ asked (getD w 0 0) os) ≡ cmds
     unfolding frontOf
     all-run = let z = asked-few (getD w 0 0) os in take-all mostTold cmds (omega arith)
 
@@ -198,7 +202,8 @@ module _ (kind : Kind) (e : Envelope) (v : Number) (os : List InnerCommand) (s u
 
     -- The Ack and the inner actor's commands first, then what is saved.
     ends : (hall : Around (e .dst)) (last : LastMessage) (rs : List Rule)
-        → o hall last rs ≡ bind (taking kind e cmds (x .cells) used (getD w 6 0) hall last (b rs)) (runCommands (roomOf (x .cells)) (e .dst) more)
+        → o hall last rs
+        ≡ bind (following kind (e .dst) message cmds (x .cells) used (getD w 6 0) hall last (b rs)) (runCommands (roomOf (x .cells)) (e .dst) more)
     unfolding bind withTimers
     ends hall last rs = go (onDeliver e (netOf kind last (x .cells) used))
       where
@@ -214,12 +219,13 @@ module _ (kind : Kind) (e : Envelope) (v : Number) (os : List InnerCommand) (s u
         go (refused k) = refl
 
     split : (hall : Around (e .dst)) (last : LastMessage) (rs : List Rule) (y : Outcome Sys)
-        → taking kind e (take mostTold (frontOf (e .src) (first.Acked v) ++ asked (getD w 0 0) os)) (x .cells) used (getD w 6 0) hall last (b rs) ≡ y
+        → following kind (e .dst) message (take mostTold (frontOf (e .src) message ++ asked (getD w 0 0) os)) (x .cells) used (getD w 6 0) hall last (b rs)
+        ≡ y
         → o hall last rs ≡ bind y (runCommands (roomOf (x .cells)) (e .dst) more)
     split hall last rs y q =
         ends hall last rs
         ∙ ap (λ (z : Outcome Sys). bind z (runCommands (roomOf (x .cells)) (e .dst) more))
-        (ap (λ (l : List Command). taking kind e l (x .cells) used (getD w 6 0) hall last (b rs)) (sym all-run) ∙ q)
+        (ap (λ (l : List Command). following kind (e .dst) message l (x .cells) used (getD w 6 0) hall last (b rs)) (sym all-run) ∙ q)
 
     -- Saved once or twice, it is stored.
     abbrev c : List Rule → Actor

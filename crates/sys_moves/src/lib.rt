@@ -6,7 +6,6 @@ use link_rows::ROW;
 use net_rows::Sent;
 use sys_emits::Emitted;
 use sys_reacts::First;
-use sys_reacts::deliver_row;
 use sys_reacts::react_row;
 use sys_reacts::refusal;
 use sys_rows::settle;
@@ -33,7 +32,8 @@ ghost use Rattle.net_rows.specs.Views.{NetReady};
 ghost use Rattle.link_direct.specs.Direct.{noted, sends};
 ghost use Rattle.link_tables.specs.Rows.{RowLaid, orders};
 ghost use Rattle.link_rows.specs.Rows.{durableIn};
-ghost use Rattle.sys_reacts.specs.Views.{lastAfter, there, Delivered};
+ghost use Rattle.sys_reacts.specs.declared.First.the-variants as first;
+ghost use Rattle.sys_reacts.specs.Views.{lastAfter, there, Safe};
 ghost use Rattle.sys_rows.specs.Rows.{RowsLaid, Settled, Kept};
 ghost use Rattle.sys_moves.specs.Views.{rowsOf, reacting, ackedIn, takenIn, Fine, Acted};
 
@@ -148,21 +148,22 @@ pub fn ack_only(
     number: Number,
 ) -> Emitted
     requires { ⌜ NetReady kind (now c) used len × (length (now c) ≡ mostEntries) ⌝ }
-    ensures { λ r. ⌜ Delivered kind e (Send (e .src) (Ack number) ∷ []) (now (c .entry)) used len timers r (now (c .exit)) ⌝ }
+    ensures { λ r. ⌜ Safe kind (e .dst) (first.Message e number) (Send (e .src) (Ack number) ∷ []) (now (c .entry)) used len timers r (now (c .exit)) ⌝ }
 {
     let none = [0u64; 16];
-    deliver_row(
+    react_row(
         c,
         kind,
         used,
         len,
         timers,
         &none,
-        e,
+        e.dst,
+        e.src,
         0,
-        number,
         0,
         MOST_TOLD,
+        First::Message(e, number),
     )
 }
 
@@ -249,18 +250,20 @@ pub fn on_message(
             len: len,
         };
     }
-    let s = deliver_row(
+    let source = e.src;
+    let s = react_row(
         c,
         kind,
         used,
         len,
         timers,
         row,
-        e,
+        e.dst,
+        source,
         value,
-        number,
         next,
         MOST_TOLD,
+        First::Message(e, number),
     );
     let a = s.answer;
     if !is_done(a) {
@@ -270,7 +273,6 @@ pub fn on_message(
             len: s.len,
         };
     }
-    let source = e.src;
     take_in(
         live,
         pend,

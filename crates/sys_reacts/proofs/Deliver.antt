@@ -1,4 +1,4 @@
--- A delivery, and the commands after it.
+-- A delivery, the commands after it, and what is put back.
 -- Assumes nothing.
 use Prim.Native.Nat.{ℕ, zero, suc, _+_, _-_, _≤_, _<_}
 use native.Mathlib.Omega.{arith}
@@ -11,16 +11,20 @@ use borrow.Author.Tests.{leb-false}
 use Rattle.types.specs.Capacities.{mostCopies}
 use Rattle.lists.specs.Lists.{choose, cut}
 use Rattle.lists.proofs.Members.{cut-length}
+use Rattle.types.specs.declared.Id.{Id}
+use Rattle.types.specs.declared.Number.{Number}
 use Rattle.types.specs.declared.Kind.{Kind}
 use Rattle.types.specs.declared.Entry.{Entry}
 use Rattle.types.specs.declared.Envelope.{Envelope}
+use Rattle.types.specs.declared.Message.the-variants.{Ack}
+use Rattle.types.specs.declared.InnerCommand.{InnerCommand}
 use Rattle.answers.specs.declared.Answer.{Answer}
 use Rattle.types.specs.declared.LastMessage.{LastMessage}
 use Rattle.types.specs.declared.LastMessage.the-variants.{Nothing, Delivered as Got}
 use Rattle.answers.specs.Answers.{answerOf, answerNumber}
 use Rattle.rules.specs.Outcome.{Outcome, done, refused, bind, guard, Room}
 use Rattle.rules.specs.Network.{Net, len, lowered, fewer, remove, dropping, delivering, isDuplicating, present, onDeliver}
-use Rattle.rules.specs.Link.{Command}
+use Rattle.rules.specs.Link.{Command, Send}
 use Rattle.rules.specs.System.{Actor, Sys, unstarted, withTimers, runCommands}
 use Rattle.sys_seat.specs.Seat.{Around, holding}
 use Rattle.sys_seat.proofs.Seats.{some-hall}
@@ -30,11 +34,14 @@ use Rattle.net_rows.specs.declared.Sent.{Sent}
 use Rattle.net_rows.specs.Views.{entryList, netOf, roomOf, NetReady, Changed}
 use Rattle.net_rows.proofs.Ready.{deliver-ready}
 use Rattle.net_rows.proofs.Laws.{used-is}
+use Rattle.link_direct.specs.Direct.{asked}
 use Rattle.answers.specs.Answers.{isDone}
 use Rattle.sys_emits.specs.declared.Emitted.{Emitted}
 use Rattle.sys_emits.specs.Views.{sysIn, Ran}
 use Rattle.sys_emits.proofs.Laws.{not-both}
-use Rattle.sys_reacts.specs.Views.{lastAfter, taking, there, Taken, Delivered}
+use Rattle.sys_reacts.specs.declared.First.{First}
+use Rattle.sys_reacts.specs.declared.First.the-variants as first
+use Rattle.sys_reacts.specs.Views.{frontOf, lastAfter, there, entering, following, Tried, Safe}
 
 -- ---- a delivery leaves at most as many entries and messages
 few-left : (x : Entry) (b : Bool) → length (choose b [] (lowered x ∷ [])) ≤ 1
@@ -90,6 +97,22 @@ module _ (e : Envelope) (m : Net) where
       go true = refl
       go false = refl
 
+-- What goes first leaves at most as many.
+abbrev Fewer : Net → Net → Type 0
+Fewer m m' = (length (m' .entries) ≤ length (m .entries)) × (len (m' .entries) ≤ len (m .entries))
+
+entered-few : (f : First) (m m' : Net) → entering f m ≡ done m' → Fewer m m'
+unfolding onDeliver guard
+entered-few first.Nothing m m' q = let z : m ≡ m' = cc in rw (← z) (omega arith, omega arith)
+entered-few (first.Message e v) m m' q = go (isDuplicating (m .kind) || present e m) q
+  where
+    go : (b : Bool) → guard b 3 (done (delivering e m)) ≡ done m' → Fewer m m'
+    go true p = let z : delivering e m ≡ m' = cc in rw (← z) (fewer-entries e m, fewer-messages e m)
+    go false p = let z : _≡_ {A = ℕ} 0 1 = cc in absurd (omega arith)
+
+never : {A : Type 0} (o : Outcome A) (p : A) (k : ℕ) → o ≡ done p → o ≡ refused k → ⊥
+never o p k a b = let z : _≡_ {A = ℕ} 0 1 = cc in omega arith
+
 -- ---- the delivery, by whether the message is there
 module _ (kind : Kind) (e : Envelope) (cs : List (List ℕ)) (used n : ℕ) where
   pub deliver-is : (last : LastMessage) → onDeliver e (netOf kind last cs used)
@@ -129,14 +152,17 @@ module _ (kind : Kind) (e : Envelope) (cs : List (List ℕ)) (used n : ℕ) wher
         deliver-is last ∙ ap (λ (b : Bool). guard b 3 (done (delivering e m))) q
         ∙ ap done (λ j. record { kind = delivered-kind e m j; entries = sym h j; last = delivered-last e m j })
 
-    module _ (cmds : List Command) (w next left : ℕ) (ready : NetReady kind cs used n) where
-      pub arrived-ready : NetReady kind cs' (s .used) (s .len)
-      arrived-ready = deliver-ready kind Nothing cs used n ready s cs' e (ch Nothing)
+    pub arrived-ready : NetReady kind cs used n → NetReady kind cs' (s .used) (s .len)
+    arrived-ready ready = deliver-ready kind Nothing cs used n ready s cs' e (ch Nothing)
 
-      pub taken-absent : isDone (s .answer) ≡ false → Taken kind e cmds cs used n w
+    module _ (me : Id) (v : Number) (cmds : List Command) (w next left : ℕ) where
+      abbrev on : Around me → Actor → Net → Outcome Sys
+      on = λ hall a m. runCommands (roomOf cs) me cmds (holding me hall m (withTimers (listed w) a))
+
+      pub tried-absent : isDone (s .answer) ≡ false → Tried kind me (first.Message e v) cmds cs used n w
           (record { answer = s .answer; used = used; len = n; timers = w; next = next; left = left }) cs'
       unfolding guard answerOf bind
-      taken-absent f =
+      tried-absent f =
           let q = there-false f in
           let z = by-there false q Nothing .left in
           record {
@@ -144,83 +170,104 @@ module _ (kind : Kind) (e : Envelope) (cs : List (List ℕ)) (used n : ℕ) wher
             ready = λ h. absurd (not-both (isDone (s .answer)) h f);
             runs = λ h. absurd (not-both (isDone (s .answer)) h f);
             stops =
-                λ h hall last a. ap (λ (o : Outcome Net). bind o
-                (λ m. runCommands (roomOf cs) (e .dst) cmds (holding (e .dst) hall m (withTimers (listed w) a))))
+                λ h hall last a. ap (λ (o : Outcome Net). bind o (on hall a))
                 (deliver-is last ∙ ap (λ (b : Bool). guard b 3 (done (delivering e (netOf kind last cs used)))) q)
                 ∙ ap (λ (x : Answer). refused (answerNumber x)) (sym (z .0));
-            same = λ h. (z .3, refl, refl, refl);
+            same = λ k h. (z .3, refl, refl, refl);
           }
 
-      pub taken-run : isDone (s .answer) ≡ true → (r : Emitted) (cs'' : List (List ℕ)) → Ran kind (e .dst) cmds cs' (s .used) w r cs''
-          → Taken kind e cmds cs used n w r cs''
+      pub tried-message : isDone (s .answer) ≡ true → (r : Emitted) (cs'' : List (List ℕ)) → Ran kind me cmds cs' (s .used) w r cs''
+          → Tried kind me (first.Message e v) cmds cs used n w r cs''
       unfolding bind
-      taken-run t r cs'' ran =
+      tried-message t r cs'' ran =
           let q = there-true t in
           let rooms : roomOf cs ≡ roomOf cs' = λ j. record { entries = sym (ch Nothing .room) j; copies = mostCopies } in
-          let on : (hall : Around (e .dst)) (last : LastMessage) (a : Actor) → taking kind e cmds cs used w hall last a
-          ≡ runCommands (roomOf cs') (e .dst) cmds (sysIn (e .dst) hall kind (lastAfter kind e last) cs' (s .used) w a) =
-          λ hall last a. ap (λ (o : Outcome Net). bind o (λ m. runCommands (roomOf cs) (e .dst) cmds (holding (e .dst) hall m (withTimers (listed w) a))))
-          (delivered-net q last)
-          ∙ ap (λ (c : Room). runCommands c (e .dst) cmds (sysIn (e .dst) hall kind (lastAfter kind e last) cs' (s .used) w a)) rooms in
+          let then : (hall : Around me) (last : LastMessage) (a : Actor) → following kind me (first.Message e v) cmds cs used w hall last a
+          ≡ runCommands (roomOf cs') me cmds (sysIn me hall kind (lastAfter kind e last) cs' (s .used) w a) =
+          λ hall last a. ap (λ (o : Outcome Net). bind o (on hall a)) (delivered-net q last)
+          ∙ ap (λ (c : Room). runCommands c me cmds (sysIn me hall kind (lastAfter kind e last) cs' (s .used) w a)) rooms in
           record {
             room = ran .room ∙ ch Nothing .room;
             ready = ran .ready;
-            runs = λ h hall last a. on hall last a ∙ ran .runs h hall (lastAfter kind e last) a;
+            runs = λ h hall last a. then hall last a ∙ ran .runs h hall (lastAfter kind e last) a;
             stops =
-                λ h hall last a. on hall last a ∙ ran .stops h hall (lastAfter kind e last) a
+                λ h hall last a. then hall last a ∙ ran .stops h hall (lastAfter kind e last) a
                 ∙ ap (λ (x : Answer). refused (answerNumber x)) (sym (ran .full h));
-            same = λ h. absurd (not-both (there kind e cs used) q h);
+            same = λ k h. absurd (never _ _ k (delivered-net q Nothing) h);
           }
+
+-- ---- nothing goes first
+module _ (kind : Kind) (me : Id) (cmds : List Command) (cs : List (List ℕ)) (used n w : ℕ) (r : Emitted) (cs' : List (List ℕ)) where
+  pub tried-plain : Ran kind me cmds cs used w r cs' → Tried kind me first.Nothing cmds cs used n w r cs'
+  unfolding bind
+  tried-plain ran = record {
+    room = ran .room;
+    ready = ran .ready;
+    runs = ran .runs;
+    stops = λ h hall last a. ran .stops h hall last a ∙ ap (λ (x : Answer). refused (answerNumber x)) (sym (ran .full h));
+    same = λ k h. absurd (never _ _ k refl h);
+  }
+
+-- ---- a row's commands, by what goes first
+module _ (kind : Kind) (me source : Id) (cs : List (List ℕ)) (used n w next limit : ℕ) (os : List InnerCommand) (r : Emitted) (cs' : List (List ℕ))
+    (f : First) where
+  pub by-nothing : f ≡ first.Nothing → Tried kind me first.Nothing (take limit (asked next os)) cs used n w r cs'
+      → Tried kind me f (take limit (frontOf source f ++ asked next os)) cs used n w r cs'
+  unfolding frontOf
+  by-nothing q t = rw q t
+
+  pub by-message : (e : Envelope) (v : Number) → f ≡ first.Message e v
+      → Tried kind me (first.Message e v) (take limit (Send source (Ack v) ∷ asked next os)) cs used n w r cs'
+      → Tried kind me f (take limit (frontOf source f ++ asked next os)) cs used n w r cs'
+  unfolding frontOf
+  by-message e v q t = rw q t
 
 -- ---- put back
-module _ (kind : Kind) (e : Envelope) (cmds : List Command) (cs : List (List ℕ)) (used n w : ℕ) (ready : NetReady kind cs used n) (r : Emitted)
-    (cs' : List (List ℕ)) (taken : Taken kind e cmds cs used n w r cs') where
-  pub back-done : isDone (r .answer) ≡ true → Delivered kind e cmds cs used n w r cs'
-  back-done t = record {
-    room = taken .room;
-    ready = taken .ready t;
+module _ (kind : Kind) (me : Id) (f : First) (cmds : List Command) (cs : List (List ℕ)) (used n w : ℕ) (ready : NetReady kind cs used n) (r : Emitted)
+    (cs' : List (List ℕ)) (tried : Tried kind me f cmds cs used n w r cs') where
+  pub safe-done : isDone (r .answer) ≡ true → Safe kind me f cmds cs used n w r cs'
+  safe-done t = record {
+    room = tried .room;
+    ready = tried .ready t;
+    runs = tried .runs;
+    stops = tried .stops;
     kept = λ h. absurd (not-both (isDone (r .answer)) t h);
-    runs = taken .runs;
-    stops = taken .stops;
   }
 
-  pub back-again : isDone (r .answer) ≡ false → (next left : ℕ)
-      → Delivered kind e cmds cs used n w (record { answer = r .answer; used = used; len = n; timers = w; next = next; left = left }) cs
-  back-again f next left = record {
+  pub safe-back : isDone (r .answer) ≡ false → (next left : ℕ)
+      → Safe kind me f cmds cs used n w (record { answer = r .answer; used = used; len = n; timers = w; next = next; left = left }) cs
+  safe-back g next left = record {
     room = refl;
     ready = ready;
+    runs = λ h. absurd (not-both (isDone (r .answer)) h g);
+    stops = tried .stops;
     kept = λ h. (refl, refl, refl, refl);
-    runs = λ h. absurd (not-both (isDone (r .answer)) h f);
-    stops = taken .stops;
   }
 
-  never : (o : Outcome Sys) (p : Sys) (k : ℕ) → o ≡ done p → o ≡ refused k → ⊥
-  never o p k a b = let z : _≡_ {A = ℕ} 0 1 = cc in omega arith
-
-  pub back-roomy : used + sent cmds ≤ length cs → n + sent cmds ≤ mostCopies → Delivered kind e cmds cs used n w r cs'
-  unfolding guard bind
-  back-roomy h k = go (isDone (r .answer)) (there kind e cs used) refl refl
+  -- With room for all of them there is no 8.
+  pub safe-roomy : used + sent cmds ≤ length cs → n + sent cmds ≤ mostCopies → Safe kind me f cmds cs used n w r cs'
+  unfolding bind
+  safe-roomy h k = go (isDone (r .answer)) refl (entering f (netOf kind Nothing cs used)) refl
     where
-      go : (b t : Bool) → isDone (r .answer) ≡ b → there kind e cs used ≡ t → Delivered kind e cmds cs used n w r cs'
-      go true t p q = back-done p
-      go false false p q =
-          let z = taken .same q in
+      go : (b : Bool) → isDone (r .answer) ≡ b → (o : Outcome Net) → entering f (netOf kind Nothing cs used) ≡ o
+          → Safe kind me f cmds cs used n w r cs'
+      go true p o q = safe-done p
+      go false p (refused i) q =
+          let z = tried .same i q in
           record {
-            room = taken .room;
+            room = tried .room;
             ready = rw (z .0, z .1, z .2) ready;
-            kept = λ g. z;
             runs = λ g. absurd (not-both (isDone (r .answer)) g p);
-            stops = taken .stops;
+            stops = tried .stops;
+            kept = λ g. z;
           }
-      go false true p q =
-          let hall = some-hall (e .dst) in
-          let m = netOf kind Nothing cs used in
+      go false p (done m) q =
+          let hall = some-hall me in
           let u = used-is cs used n (ready .laid) in
           let v = ready .laid .sum in
-          let x = fewer-entries e m in
-          let y = fewer-messages e m in
-          let g = runs (roomOf cs) (e .dst) cmds (holding (e .dst) hall (delivering e m) (withTimers (listed w) (unstarted []))) (omega arith) (omega arith) in
-          absurd (never (taking kind e cmds cs used w hall Nothing (unstarted [])) (g .sys) _
-          (ap (λ (o : Outcome Net). bind o (λ i. runCommands (roomOf cs) (e .dst) cmds (holding (e .dst) hall i (withTimers (listed w) (unstarted [])))))
-          (deliver-is kind e cs used n Nothing ∙ ap (λ (b : Bool). guard b 3 (done (delivering e m))) q) ∙ g .done-is)
-          (taken .stops p hall Nothing (unstarted [])))
+          let x = entered-few f (netOf kind Nothing cs used) m q in
+          let g = runs (roomOf cs) me cmds (holding me hall m (withTimers (listed w) (unstarted []))) (omega arith) (omega arith) in
+          absurd (never _ (g .sys) _
+          (ap (λ (o : Outcome Net). bind o (λ i. runCommands (roomOf cs) me cmds (holding me hall i (withTimers (listed w) (unstarted []))))) q
+          ∙ g .done-is)
+          (tried .stops p hall Nothing (unstarted [])))

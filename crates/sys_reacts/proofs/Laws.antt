@@ -1,4 +1,4 @@
--- Refusals beforehand, a run with an Ack in front, and a run that is put back.
+-- Refusals beforehand, a run with an Ack in front, and how many are sent.
 -- Assumes nothing.
 use Prim.Native.Nat.{ℕ, zero, suc, _+_, _-_, _≤_, _<_}
 use native.Mathlib.Omega.{arith}
@@ -28,14 +28,12 @@ use Rattle.rules.specs.Inner.{told}
 use Rattle.rules.specs.Outcome.{Outcome, done, refused, bind, Room}
 use Rattle.rules.specs.Network.{Net, send, len}
 use Rattle.rules.specs.Link.{Durable, Command, Set, Cancel, Send, Save, process}
-use Rattle.rules.specs.System.{Actor, Sys, unstarted, withNet, runCommands}
+use Rattle.rules.specs.System.{Actor, withNet, runCommands}
 use Rattle.sys_seat.specs.Seat.{Around}
-use Rattle.sys_seat.proofs.Seats.{some-hall}
-use Rattle.sys_seat.proofs.Rooms.{sent, sent-asked, Runs, runs}
+use Rattle.sys_seat.proofs.Rooms.{sent, sent-asked}
 use Rattle.net_rows.specs.declared.Sent.{Sent}
 use Rattle.net_rows.specs.Views.{entryList, netOf, roomOf, NetReady, Changed}
 use Rattle.net_rows.proofs.Ready.{send-ready}
-use Rattle.net_rows.proofs.Laws.{used-is}
 use Rattle.link_direct.specs.Direct.{asked, sends}
 use Rattle.link_direct.proofs.Laws.{Goes, goes, no-numbers, no-places}
 use Rattle.answers.specs.Answers.{isDone}
@@ -44,7 +42,7 @@ use Rattle.sys_emits.specs.Views.{sysIn, Ran}
 use Rattle.sys_emits.proofs.Laws.{take-first, not-both, sent-full, sent-on, sent-stops}
 use Rattle.sys_reacts.specs.declared.First.{First}
 use Rattle.sys_reacts.specs.declared.First.the-variants as first
-use Rattle.sys_reacts.specs.Views.{limitsOf, refusalOf, frontOf, Safe}
+use Rattle.sys_reacts.specs.Views.{limitsOf, refusalOf, frontOf}
 
 -- ---- 6 and 7
 module _ (next pending room k : ℕ) where
@@ -107,11 +105,15 @@ module _ (i : Id) (d : Durable) (room : ℕ) (os : List InnerCommand) (a : Answe
           no-places (limitsOf room) i os d (omega arith) most (omega arith) ∙ ap (λ (x : Answer). refused (answerNumber x)) (sym w)
 
 -- ---- an Ack in front
-module _ (kind : Kind) (me source : Id) (cs : List (List ℕ)) (used n w next limit : ℕ) (ready : NetReady kind cs used n) (os : List InnerCommand) where
-  pub ran-none : (front : List Command) → limit ≡ 0 → Ran kind me (take limit (front ++ asked next os)) cs used w
+module _ (kind : Kind) (me source : Id) (v : Number) (cs : List (List ℕ)) (used n w next limit : ℕ) (ready : NetReady kind cs used n)
+    (os : List InnerCommand) where
+  abbrev ack : Command
+  ack = Send source (Ack v)
+
+  pub ran-none : limit ≡ 0 → Ran kind me (take limit (ack ∷ asked next os)) cs used w
       (record { answer = Done; used = used; len = n; timers = w; next = next; left = 0 }) cs
   unfolding runCommands
-  ran-none front e = rw e (record {
+  ran-none e = rw e (record {
     room = refl;
     full = λ h. absurd (not-both (isDone Done) refl h);
     ready = λ h. ready;
@@ -119,22 +121,16 @@ module _ (kind : Kind) (me source : Id) (cs : List (List ℕ)) (used n w next li
     stops = λ h. absurd (not-both (isDone Done) refl h);
   })
 
-  pub ran-plain : (f : First) → f ≡ first.Nothing → (r : Emitted) (cs' : List (List ℕ)) → Ran kind me (take limit (asked next os)) cs used w r cs'
-      → Ran kind me (take limit (frontOf source f ++ asked next os)) cs used w r cs'
-  unfolding frontOf
-  ran-plain f e r cs' ran = rw e ran
-
-  module _ (some : 0 < limit) (f : First) (v : Number) (e : f ≡ first.Acked v) (s : Sent) (cs' : List (List ℕ))
+  module _ (some : 0 < limit) (s : Sent) (cs' : List (List ℕ))
       (ch : (last : LastMessage) → Changed cs used n (send (roomOf cs) (record { src = me; dst = source; msg = Ack v })
       (netOf kind last cs used)) s cs') where
-    cmds : take limit (frontOf source f ++ asked next os) ≡ Send source (Ack v) ∷ take (limit - 1) (asked next os)
-    unfolding frontOf
-    cmds = rw e (take-first limit (Send source (Ack v)) (asked next os) some)
+    cmds : take limit (ack ∷ asked next os) ≡ ack ∷ take (limit - 1) (asked next os)
+    cmds = take-first limit ack (asked next os) some
 
     pub acked-ready : NetReady kind cs' (s .used) (s .len)
     acked-ready = send-ready kind last.Nothing cs used n ready s cs' _ (ch last.Nothing)
 
-    pub ran-unacked : isDone (s .answer) ≡ false → Ran kind me (take limit (frontOf source f ++ asked next os)) cs used w
+    pub ran-unacked : isDone (s .answer) ≡ false → Ran kind me (take limit (ack ∷ asked next os)) cs used w
         (record { answer = s .answer; used = used; len = n; timers = w; next = next; left = limit }) cs'
     unfolding runCommands withNet
     ran-unacked g = record {
@@ -149,12 +145,12 @@ module _ (kind : Kind) (me source : Id) (cs : List (List ℕ)) (used n w next li
 
     pub ran-acked : isDone (s .answer) ≡ true → (r : Emitted) (cs'' : List (List ℕ))
         → Ran kind me (take (limit - 1) (asked next os)) cs' (s .used) w r cs''
-        → Ran kind me (take limit (frontOf source f ++ asked next os)) cs used w r cs''
+        → Ran kind me (take limit (ack ∷ asked next os)) cs used w r cs''
     unfolding runCommands withNet
     ran-acked g r cs'' ran =
         let rooms : roomOf cs ≡ roomOf cs' = λ j. record { entries = sym (ch last.Nothing .room) j; copies = mostCopies } in
         let on : (hall : Around me) (last : LastMessage) (a : Actor)
-        → runCommands (roomOf cs) me (take limit (frontOf source f ++ asked next os)) (sysIn me hall kind last cs used w a)
+        → runCommands (roomOf cs) me (take limit (ack ∷ asked next os)) (sysIn me hall kind last cs used w a)
         ≡ runCommands (roomOf cs') me (take (limit - 1) (asked next os)) (sysIn me hall kind last cs' (s .used) w a) =
         λ hall last a. ap (λ (l : List Command). runCommands (roomOf cs) me l (sysIn me hall kind last cs used w a)) cmds
         ∙ sent-on kind last cs used n _ s cs' (ch last) _ g
@@ -188,47 +184,7 @@ sent-take (suc k) (Send r m ∷ cs) = let z = sent-take k cs in omega arith
 sent-front : (source : Id) (f : First) → sent (frontOf source f) ≤ 1
 unfolding sent frontOf
 sent-front source first.Nothing = omega arith
-sent-front source (first.Acked v) = omega arith
-
--- ---- put back after an 8
-module _ (kind : Kind) (me : Id) (cmds : List Command) (cs : List (List ℕ)) (used n w : ℕ) (ready : NetReady kind cs used n) (r : Emitted)
-    (cs' : List (List ℕ)) (ran : Ran kind me cmds cs used w r cs') where
-  pub safe-done : isDone (r .answer) ≡ true → Safe kind me cmds cs used n w r cs'
-  safe-done t = record {
-    room = ran .room;
-    ready = ran .ready t;
-    full = ran .full;
-    kept = λ h. absurd (not-both (isDone (r .answer)) t h);
-    runs = ran .runs;
-    stops = ran .stops;
-  }
-
-  pub safe-back : isDone (r .answer) ≡ false → (next left : ℕ)
-      → Safe kind me cmds cs used n w (record { answer = r .answer; used = used; len = n; timers = w; next = next; left = left }) cs
-  safe-back f next left = record {
-    room = refl;
-    ready = ready;
-    full = ran .full;
-    kept = λ h. (refl, refl, refl, refl);
-    runs = λ h. absurd (not-both (isDone (r .answer)) h f);
-    stops = ran .stops;
-  }
-
-  never : (o : Outcome Sys) (p : Sys) → o ≡ done p → o ≡ refused 8 → ⊥
-  never o p a b = let z : _≡_ {A = ℕ} 0 1 = cc in omega arith
-
-  pub safe-roomy : used + sent cmds ≤ length cs → n + sent cmds ≤ mostCopies → Safe kind me cmds cs used n w r cs'
-  safe-roomy h k = safe-done (go (isDone (r .answer)) refl)
-    where
-      go : (b : Bool) → isDone (r .answer) ≡ b → isDone (r .answer) ≡ true
-      go true e = e
-      go false e =
-          let hall = some-hall me in
-          let p = sysIn me hall kind last.Nothing cs used w (unstarted []) in
-          let u = used-is cs used n (ready .laid) in
-          let v = ready .laid .sum in
-          let g = runs (roomOf cs) me cmds p (omega arith) (omega arith) in
-          absurd (never _ (g .sys) (g .done-is) (ran .stops e hall last.Nothing (unstarted [])))
+sent-front source (first.Message e v) = omega arith
 
 pub few-sent : (source : Id) (f : First) (next limit k : ℕ) (os : List InnerCommand) → k ≡ sends os
     → sent (take limit (frontOf source f ++ asked next os)) ≤ k + 1

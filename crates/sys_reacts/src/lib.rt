@@ -1,4 +1,4 @@
-// The commands of a rule, with an Ack in front where there is one: 6 and 7 beforehand, and after an 8 the cells are put back.
+// The commands of a rule, after a message and its Ack where there is one: 6 and 7 beforehand, and after an 8 the cells are put back.
 // Where there is room for all sends no copy is made.
 use answers::Answer;
 use answers::is_done;
@@ -13,22 +13,23 @@ use types::Message;
 use types::Number;
 ghost use mathlib.Core.Path.{_≡_};
 ghost use mathlib.Core.Bool.{true};
-ghost use mathlib.Core.List.{List, [], _∷_, _++_};
-ghost use Prim.Native.Nat.{_+_, _≤_, _<_};
-ghost use lib.ListN.{length, take, getD};
+ghost use mathlib.Core.List.{_∷_, _++_};
+ghost use Prim.Native.Nat.{_+_, _≤_};
+ghost use lib.ListN.{length, take};
 ghost use Rattle.types.specs.Capacities.{mostEntries, mostCopies};
+ghost use Rattle.types.specs.declared.Message.the-variants.{Ack};
 ghost use Rattle.answers.specs.Answers.{answerOf};
+ghost use Rattle.rules.specs.Link.{Send};
 ghost use Rattle.net_rows.specs.Views.{NetReady};
 ghost use Rattle.link_direct.specs.Direct.{asked, sends};
 ghost use Rattle.link_tables.specs.Rows.{RowLaid, orders};
 ghost use Rattle.sys_emits.specs.Views.{Ran};
-ghost use Rattle.sys_reacts.specs.declared.First.the-variants.{Acked};
-ghost use Rattle.sys_reacts.specs.Views.{refusalOf, frontOf, Safe, Taken, Delivered};
+ghost use Rattle.sys_reacts.specs.Views.{refusalOf, frontOf, Tried, Safe};
 
-// What goes before a row's commands: an Ack to the source, or nothing.
+// What goes before a row's commands: nothing, or a message that is delivered, and the Ack of its number.
 pub enum First {
     Nothing,
-    Acked(Number),
+    Message(Envelope, Number),
 }
 
 // 6 and 7: decided by the numbers and places that are left.
@@ -65,8 +66,69 @@ pub fn roomy(room: usize, used: usize, len: u64, sends: u64) -> bool
     sends <= (MOST_COPIES as u64) - len
 }
 
-// An Ack, where there is one, and the commands of a row: the first `limit` of all these.
-pub fn run_row(
+// The Ack of a number to the source, and the commands of a row: the first `limit` of all these.
+fn acked_row(
+    c: &mut [[u64; 4]],
+    kind: Kind,
+    used: usize,
+    len: u64,
+    timers: u32,
+    row: &[u64],
+    me: Id,
+    source: Id,
+    value: u32,
+    number: Number,
+    next: u64,
+    limit: usize,
+) -> Emitted
+    requires { ⌜ NetReady kind (now c) used len × RowLaid (now row) × (next + sends (orders (now row) source value) ≤ 18446744073709551615) ⌝ }
+    ensures { λ r. ⌜ Ran kind me (take limit (Send source (Ack number) ∷ asked next (orders (now (row .entry)) source value)))
+        (now (c .entry)) used timers r (now (c .exit)) ⌝ }
+{
+    if limit == 0 {
+        return Emitted {
+            answer: Answer::Done,
+            used: used,
+            len: len,
+            timers: timers,
+            next: next,
+            left: 0,
+        };
+    }
+    let e = Envelope {
+        src: me,
+        dst: source,
+        msg: Message::Ack(number),
+    };
+    let s = net_rows::send(c, kind, used, len, e);
+    let a = s.answer;
+    if !is_done(a) {
+        return Emitted {
+            answer: a,
+            used: used,
+            len: len,
+            timers: timers,
+            next: next,
+            left: limit,
+        };
+    }
+    emit(
+        c,
+        kind,
+        s.used,
+        s.len,
+        timers,
+        row,
+        me,
+        source,
+        value,
+        next,
+        limit - 1,
+    )
+}
+
+// What goes first, and the commands of a row.
+fn run_row(
     c: &mut [[u64; 4]],
     kind: Kind,
     used: usize,
@@ -81,8 +143,8 @@ pub fn run_row(
     first: First,
 ) -> Emitted
     requires { ⌜ NetReady kind (now c) used len × RowLaid (now row) × (next + sends (orders (now row) source value) ≤ 18446744073709551615) ⌝ }
-    ensures { λ r. ⌜ Ran kind me (take limit (frontOf source first ++ asked next (orders (now (row .entry)) source value))) (now (c .entry)) used timers r
-        (now (c .exit)) ⌝ }
+    ensures { λ r. ⌜ Tried kind me first (take limit (frontOf source first ++ asked next (orders (now (row .entry)) source value)))
+        (now (c .entry)) used len timers r (now (c .exit)) ⌝ }
 {
     match first {
         First::Nothing => emit(
@@ -98,23 +160,8 @@ pub fn run_row(
             next,
             limit,
         ),
-        First::Acked(n) => {
-            if limit == 0 {
-                return Emitted {
-                    answer: Answer::Done,
-                    used: used,
-                    len: len,
-                    timers: timers,
-                    next: next,
-                    left: 0,
-                };
-            }
-            let e = Envelope {
-                src: me,
-                dst: source,
-                msg: Message::Ack(n),
-            };
-            let s = net_rows::send(c, kind, used, len, e);
+        First::Message(e, number) => {
+            let s = net_rows::on_deliver(c, kind, used, len, e);
             let a = s.answer;
             if !is_done(a) {
                 return Emitted {
@@ -126,7 +173,7 @@ pub fn run_row(
                     left: limit,
                 };
             }
-            emit(
+            acked_row(
                 c,
                 kind,
                 s.used,
@@ -136,8 +183,9 @@ pub fn run_row(
                 me,
                 source,
                 value,
+                number,
                 next,
-                limit - 1,
+                limit,
             )
         }
     }
@@ -160,7 +208,7 @@ pub fn react_row(
 ) -> Emitted
     requires { ⌜ NetReady kind (now c) used len × RowLaid (now row) × (next + sends (orders (now row) source value) ≤ 18446744073709551615)
         × (length (now c) ≡ mostEntries) ⌝ }
-    ensures { λ r. ⌜ Safe kind me (take limit (frontOf source first ++ asked next (orders (now (row .entry)) source value)))
+    ensures { λ r. ⌜ Safe kind me first (take limit (frontOf source first ++ asked next (orders (now (row .entry)) source value)))
         (now (c .entry)) used len timers r (now (c .exit)) ⌝ }
 {
     let n = row[14];
@@ -194,118 +242,6 @@ pub fn react_row(
         next,
         limit,
         first,
-    );
-    let a = s.answer;
-    if is_done(a) {
-        return s;
-    }
-    *c = old;
-    Emitted {
-        answer: a,
-        used: used,
-        len: len,
-        timers: timers,
-        next: next,
-        left: limit,
-    }
-}
-
-// A message is delivered, and then the same with its Ack in front.
-fn take_row(
-    c: &mut [[u64; 4]],
-    kind: Kind,
-    used: usize,
-    len: u64,
-    timers: u32,
-    row: &[u64],
-    e: Envelope,
-    value: u32,
-    number: Number,
-    next: u64,
-    limit: usize,
-) -> Emitted
-    requires { ⌜ NetReady kind (now c) used len × RowLaid (now row) × (next + sends (orders (now row) (e .src) value) ≤ 18446744073709551615) ⌝ }
-    ensures { λ r. ⌜ Taken kind e (take limit (frontOf (e .src) (Acked number) ++ asked next (orders (now (row .entry)) (e .src) value)))
-        (now (c .entry)) used len timers r (now (c .exit)) ⌝ }
-{
-    let s = net_rows::on_deliver(c, kind, used, len, e);
-    let a = s.answer;
-    if !is_done(a) {
-        return Emitted {
-            answer: a,
-            used: used,
-            len: len,
-            timers: timers,
-            next: next,
-            left: limit,
-        };
-    }
-    let source = e.src;
-    let me = e.dst;
-    run_row(
-        c,
-        kind,
-        s.used,
-        s.len,
-        timers,
-        row,
-        me,
-        source,
-        value,
-        next,
-        limit,
-        First::Acked(number),
-    )
-}
-
-// The same, put back after an 8.
-pub fn deliver_row(
-    c: &mut [[u64; 4]; MOST_ENTRIES],
-    kind: Kind,
-    used: usize,
-    len: u64,
-    timers: u32,
-    row: &[u64],
-    e: Envelope,
-    value: u32,
-    number: Number,
-    next: u64,
-    limit: usize,
-) -> Emitted
-    requires { ⌜ NetReady kind (now c) used len × RowLaid (now row) × (next + sends (orders (now row) (e .src) value) ≤ 18446744073709551615)
-        × (length (now c) ≡ mostEntries) ⌝ }
-    ensures { λ r. ⌜ Delivered kind e (take limit (frontOf (e .src) (Acked number) ++ asked next (orders (now (row .entry)) (e .src) value)))
-        (now (c .entry)) used len timers r (now (c .exit)) ⌝ }
-{
-    let n = row[14];
-    if roomy(MOST_ENTRIES, used, len, n + 1) {
-        return take_row(
-            c,
-            kind,
-            used,
-            len,
-            timers,
-            row,
-            e,
-            value,
-            number,
-            next,
-            limit,
-        );
-    }
-    let old = *c;
-    let s = take_row(
-        c,
-        kind,
-        used,
-        len,
-        timers,
-        row,
-        e,
-        value,
-        number,
-        next,
-        limit,
     );
     let a = s.answer;
     if is_done(a) {

@@ -24,6 +24,7 @@ ghost use Rattle.rules.specs.Link.{resent};
 ghost use Rattle.net_rows.specs.Views.{netOf, roomOf, NetReady, Changed};
 ghost use Rattle.link_rows.specs.Rows.{pendingIn, Sendable};
 ghost use Rattle.sys_emits.specs.Views.{Ran};
+ghost use Rattle.sys_reacts.specs.declared.First.the-variants.{Nothing};
 ghost use Rattle.sys_reacts.specs.Views.{Safe};
 
 fn resend_one(
@@ -50,7 +51,7 @@ fn resend_one(
 }
 
 // After an 8 the cells are the caller's to put back.
-pub fn resend(
+fn resend(
     c: &mut [[u64; 4]],
     kind: Kind,
     used: usize,
@@ -119,7 +120,8 @@ pub fn resend_all(
     limit: usize,
 ) -> Emitted
     requires { ⌜ NetReady kind (now c) used len × (n ≤ length (now pend)) × Sendable (now pend) n × (length (now c) ≡ mostEntries) ⌝ }
-    ensures { λ r. ⌜ Safe kind me (take limit (resent (map pendingIn (take n (now (pend .entry)))))) (now (c .entry)) used len timers r (now (c .exit)) ⌝ }
+    ensures { λ r. ⌜ Safe kind me Nothing (take limit (resent (map pendingIn (take n (now (pend .entry)))))) (now (c .entry)) used len timers r
+        (now (c .exit)) ⌝ }
 {
     if roomy(MOST_ENTRIES, used, len, n as u64) {
         return resend(c, kind, used, len, timers, me, pend, n, limit);

@@ -41,6 +41,7 @@ use Rattle.sys_seat.specs.Seat.{Around, holding}
 use Rattle.sys_emits.specs.declared.Emitted.{Emitted}
 use Rattle.sys_emits.specs.Views.{sysIn}
 use Rattle.sys_emits.proofs.Laws.{not-both}
+use Rattle.sys_reacts.specs.declared.First.the-variants as first
 use Rattle.sys_reacts.specs.Views.{Safe}
 use Rattle.sys_rows.specs.Rows.{actorOf, RowsLaid, Settled}
 use Rattle.sys_rows.proofs.Laws.{state-small, aside, aside-head, tail-marks, as-settled}
@@ -161,7 +162,8 @@ module _ (me : Id) (count : ℕ) (rs : List Rule) (kind : Kind) (used n : ℕ) (
   quiet e = ended-refused me count rs _ _ kind used n x fine Ignored refl (λ hall size last. quiet-is me kind x used rs hall last is-set (none-left e))
 
   module _ (some : 0 < getD (x .live) 1 0) (r : Emitted) (cs' : List (List ℕ))
-      (safe : Safe kind me (take mostPending (resent (map pendingIn (take (getD (x .live) 1 0) (x .pend))))) (x .cells) used n (getD (x .live) 6 0) r cs') where
+      (safe : Safe kind me first.Nothing (take mostPending (resent (map pendingIn (take (getD (x .live) 1 0) (x .pend))))) (x .cells) used n
+      (getD (x .live) 6 0) r cs') where
     counted : length ps ≡ getD (x .live) 1 0
     counted = let a = fine .live .places in let b = fine .live .pending in places-are (x .live) (x .pend) (omega arith)
 
@@ -187,15 +189,14 @@ module _ (me : Id) (count : ℕ) (rs : List Rule) (kind : Kind) (used n : ℕ) (
 
     pub again-sent : Stepped count (Timeout me network) me rs kind used n x (record { answer = r .answer; used = r .used; len = r .len })
         (record { cells = cs'; live = x .live; pend = x .pend; kept = x .kept; stored = x .stored })
-    unfolding lastThen
+    unfolding lastThen bind
     again-sent = record {
       fine = record { net = safe .ready; room = safe .room ∙ fine .room; live = fine .live; kept = fine .kept };
       runs = λ t hall size last.
           let e = ran hall last _ (safe .runs t hall last (actorAt rs x)) in
           let kept = resent-actors (roomOf (x .cells)) me ps (start hall last) _ e in
           as-run hall last ∙ e ∙ ap done (λ j. record { net = netOf kind last cs' (r .used); actors = kept j });
-      stops = λ f hall size last.
-          as-run hall last ∙ ran hall last _ (safe .stops f hall last (actorAt rs x)) ∙ ap (λ (y : Answer). refused (answerNumber y)) (sym (safe .full f));
+      stops = λ f hall size last. as-run hall last ∙ ran hall last _ (safe .stops f hall last (actorAt rs x));
       same = λ f.
           let z = safe .kept f in
           (λ j. record { cells = z .0 j; live = x .live; pend = x .pend; kept = x .kept; stored = x .stored }, z .1, z .2);

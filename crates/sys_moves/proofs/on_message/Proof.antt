@@ -51,8 +51,8 @@ returns c =
     (sym ((c .before .before .before .is-done) .ensures) ∙ not-true _ ((c .before .before .if1) .taken)) ((c .when-refused) .result)
     ((c .when-refused) .ensures .0) ((c .when-refused) .last .0) ((c .when-refused) .ensures .1)
 
-deliver-row-requires : tie.Need-deliver-row-requires
-deliver-row-requires c κs =
+react-row-requires : tie.Need-react-row-requires
+react-row-requires c κs =
     let s = (c .before .before .before .before .before .before .before .before .before) in
     let a = s .args in
     let os = orders (a .row .now) (a .e .src) (a .value) in
@@ -80,8 +80,8 @@ returns-2 c =
     ((c .before .before .before .before .before .before .refusal) .result) e h
     (sym ((c .before .before .before .before .before .is-done) .ensures) ∙ not-false _ ((c .before .before .before .before .if1) .left)) in
     taken-full (a .kind) (a .e) (a .number) os (a .state) (a .used) (a .len) x (s .pre .0) (g .0) (g .1)
-    (row-four (a .row .now) (a .e .src) (a .value) (s .pre .1)) ((c .before .before .deliver-row) .result) ((c .before .before .deliver-row) .last .0)
-    ((c .before .before .deliver-row) .ensures) (sym ((c .before .is-done2) .ensures) ∙ not-true _ ((c .if2) .taken))
+    (row-four (a .row .now) (a .e .src) (a .value) (s .pre .1)) ((c .before .before .react-row) .result) ((c .before .before .react-row) .last .0)
+    ((c .before .before .react-row) .ensures) (sym ((c .before .is-done2) .ensures) ∙ not-true _ ((c .if2) .taken))
 
 take-in-requires : tie.Need-take-in-requires
 take-in-requires c κs =
@@ -115,9 +115,9 @@ returns-3 c =
     (sym ((c .before .before .before .before .before .before .before .before .before .before .before .is-done) .ensures)
     ∙ not-false _ ((c .before .before .before .before .before .before .before .before .before .before .if1) .left)) in
     taken-done (a .kind) (a .e) (a .number) os (a .state) (a .used) (a .len) x (s .pre .0) (g .0) (g .1)
-    (row-four (a .row .now) (a .e .src) (a .value) (s .pre .1)) ((c .before .before .before .before .before .before .before .before .deliver-row) .result)
-    ((c .before .before .before .before .before .before .before .before .deliver-row) .last .0)
-    ((c .before .before .before .before .before .before .before .before .deliver-row) .ensures)
+    (row-four (a .row .now) (a .e .src) (a .value) (s .pre .1)) ((c .before .before .before .before .before .before .before .before .react-row) .result)
+    ((c .before .before .before .before .before .before .before .before .react-row) .last .0)
+    ((c .before .before .before .before .before .before .before .before .react-row) .ensures)
     (sym ((c .before .before .before .before .before .before .before .is-done2) .ensures)
     ∙ not-false _ ((c .before .before .before .before .before .before .if2) .left)) ((c .take-in) .last .0) ((c .take-in) .last .1 .0)
     ((c .take-in) .ensures .0) ((c .take-in) .last .1 .1 .0) ((c .take-in) .last .1 .1 .1 .0) ((c .take-in) .ensures .1)
@@ -135,7 +135,7 @@ on-message-spec =
     is-done-requires
     when-refused-requires
     returns
-    deliver-row-requires
+    react-row-requires
     is-done-requires-2
     returns-2
     take-in-requires

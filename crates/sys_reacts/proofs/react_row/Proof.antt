@@ -6,7 +6,8 @@ use Rattle.link_direct.specs.Direct.{asked}
 use Rattle.link_tables.specs.Rows.{orders}
 use Rattle.link_tables.proofs.Told.{row-sends}
 use Rattle.sys_reacts.specs.Views.{frontOf}
-use Rattle.sys_reacts.proofs.Laws.{few-sent, safe-done, safe-back, safe-roomy}
+use Rattle.sys_reacts.proofs.Laws.{few-sent}
+use Rattle.sys_reacts.proofs.Deliver.{safe-done, safe-back, safe-roomy}
 use borrow.Author.Needs.{needs}
 use Rattle.sys_reacts.proofs.react_row.Statement.{statement}
 use Rattle.sys_reacts.proofs.react_row.Tie as tie
@@ -37,7 +38,8 @@ returns c =
     let f = few-sent (a .source) (a .first) (a .next) (a .limit) (getD (a .row .now) 14 0) os (s .pre .1 .sends (a .source) (a .value)) in
     let r = (c .before .before .before .roomy) .ensures ((c .before .before .if1) .taken) in
     let y = s .pre .3 in
-    safe-roomy (a .kind) (a .me) (take (a .limit) (frontOf (a .source) (a .first) ++ asked (a .next) os)) (a .c .now) (a .used) (a .len) (a .timers) (s .pre .0)
+    let cmds = take (a .limit) (frontOf (a .source) (a .first) ++ asked (a .next) os) in
+    safe-roomy (a .kind) (a .me) (a .first) cmds (a .c .now) (a .used) (a .len) (a .timers) (s .pre .0)
     ((c .run-row) .result) ((c .run-row) .last .0) ((c .run-row) .ensures) (omega (arith, r .0)) (omega (arith, r .1))
 
 run-row-requires-2 : tie.Need-run-row-requires-2
@@ -51,7 +53,8 @@ returns-2 c =
     let s = (c .before .before .before .before .before .before .before .before .before) in
     let a = s .args in
     let os = orders (a .row .now) (a .source) (a .value) in
-    safe-done (a .kind) (a .me) (take (a .limit) (frontOf (a .source) (a .first) ++ asked (a .next) os)) (a .c .now) (a .used) (a .len) (a .timers) (s .pre .0)
+    let cmds = take (a .limit) (frontOf (a .source) (a .first) ++ asked (a .next) os) in
+    safe-done (a .kind) (a .me) (a .first) cmds (a .c .now) (a .used) (a .len) (a .timers) (s .pre .0)
     ((c .before .before .run-row2) .result) ((c .before .before .run-row2) .last .0) ((c .before .before .run-row2) .ensures)
     (sym ((c .before .is-done) .ensures) ∙ (c .if2) .taken)
 
@@ -60,7 +63,8 @@ returns-3 c =
     let s = (c .before .before .before .before .before .before .before .before .before) in
     let a = s .args in
     let os = orders (a .row .now) (a .source) (a .value) in
-    safe-back (a .kind) (a .me) (take (a .limit) (frontOf (a .source) (a .first) ++ asked (a .next) os)) (a .c .now) (a .used) (a .len) (a .timers) (s .pre .0)
+    let cmds = take (a .limit) (frontOf (a .source) (a .first) ++ asked (a .next) os) in
+    safe-back (a .kind) (a .me) (a .first) cmds (a .c .now) (a .used) (a .len) (a .timers) (s .pre .0)
     ((c .before .before .run-row2) .result) ((c .before .before .run-row2) .last .0) ((c .before .before .run-row2) .ensures)
     (sym ((c .before .is-done) .ensures) ∙ (c .if2) .left) (a .next) (a .limit)
 

@@ -6,7 +6,8 @@ use mathlib.Core.List.{map}
 use lib.ListN.{take}
 use Rattle.rules.specs.Link.{resent}
 use Rattle.link_rows.specs.Rows.{pendingIn}
-use Rattle.sys_reacts.proofs.Laws.{safe-done, safe-back, safe-roomy}
+use Rattle.sys_reacts.specs.declared.First.the-variants.{Nothing}
+use Rattle.sys_reacts.proofs.Deliver.{tried-plain, safe-done, safe-back, safe-roomy}
 use Rattle.sys_resends.proofs.Laws.{few-resent}
 use borrow.Author.Needs.{needs}
 use Rattle.sys_resends.proofs.resend_all.Statement.{statement}
@@ -22,11 +23,14 @@ returns : tie.Need-returns
 returns c =
     let s = c .before .before .before .before in
     let a = s .args in
+    let x = c .resend in
+    let cmds = take (a .limit) (resent (map pendingIn (take (a .n) (a .pend .now)))) in
     let few = few-resent (a .pend .now) (a .n) (a .limit) (s .pre .1) in
     let r = c .before .before .before .roomy .ensures (c .before .before .if1 .taken) in
     let y = s .pre .3 in
-    safe-roomy (a .kind) (a .me) (take (a .limit) (resent (map pendingIn (take (a .n) (a .pend .now))))) (a .c .now) (a .used) (a .len) (a .timers) (s .pre .0)
-    (c .resend .result) (c .resend .last .0) (c .resend .ensures) (omega (arith, r .0)) (omega (arith, r .1))
+    safe-roomy (a .kind) (a .me) Nothing cmds (a .c .now) (a .used) (a .len) (a .timers) (s .pre .0) (x .result) (x .last .0)
+    (tried-plain (a .kind) (a .me) cmds (a .c .now) (a .used) (a .len) (a .timers) (x .result) (x .last .0) (x .ensures)) (omega (arith, r .0))
+    (omega (arith, r .1))
 
 resend-requires-2 : tie.Need-resend-requires-2
 resend-requires-2 c κs = search needs
@@ -39,16 +43,20 @@ returns-2 c =
     let s = c .before .before .before .before .before .before .before in
     let a = s .args in
     let x = c .before .before .resend2 in
-    safe-done (a .kind) (a .me) (take (a .limit) (resent (map pendingIn (take (a .n) (a .pend .now))))) (a .c .now) (a .used) (a .len) (a .timers) (s .pre .0)
-    (x .result) (x .last .0) (x .ensures) (sym (c .before .is-done .ensures) ∙ c .if2 .taken)
+    let cmds = take (a .limit) (resent (map pendingIn (take (a .n) (a .pend .now)))) in
+    safe-done (a .kind) (a .me) Nothing cmds (a .c .now) (a .used) (a .len) (a .timers) (s .pre .0) (x .result) (x .last .0)
+    (tried-plain (a .kind) (a .me) cmds (a .c .now) (a .used) (a .len) (a .timers) (x .result) (x .last .0) (x .ensures))
+    (sym (c .before .is-done .ensures) ∙ c .if2 .taken)
 
 returns-3 : tie.Need-returns-3
 returns-3 c =
     let s = c .before .before .before .before .before .before .before in
     let a = s .args in
     let x = c .before .before .resend2 in
-    safe-back (a .kind) (a .me) (take (a .limit) (resent (map pendingIn (take (a .n) (a .pend .now))))) (a .c .now) (a .used) (a .len) (a .timers) (s .pre .0)
-    (x .result) (x .last .0) (x .ensures) (sym (c .before .is-done .ensures) ∙ c .if2 .left) 0 (a .limit)
+    let cmds = take (a .limit) (resent (map pendingIn (take (a .n) (a .pend .now)))) in
+    safe-back (a .kind) (a .me) Nothing cmds (a .c .now) (a .used) (a .len) (a .timers) (s .pre .0) (x .result) (x .last .0)
+    (tried-plain (a .kind) (a .me) cmds (a .c .now) (a .used) (a .len) (a .timers) (x .result) (x .last .0) (x .ensures))
+    (sym (c .before .is-done .ensures) ∙ c .if2 .left) 0 (a .limit)
 
 pub resend-all-spec : {M : Type 1} → statement M
 resend-all-spec =
