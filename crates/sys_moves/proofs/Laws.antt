@@ -41,7 +41,7 @@ use Rattle.sys_reacts.proofs.Laws.{goes-on, refuses}
 use Rattle.sys_rows.specs.Rows.{RowsLaid, Settled, Kept}
 use Rattle.sys_rows.proofs.Laws.{as-settled, as-stored, stored-laid}
 use Rattle.link_tables.specs.Rows.{RowLaid, orders, commandsIn}
-use Rattle.sys_moves.specs.Views.{Rows, actorWith, running, reacting, Fine, Acted}
+use Rattle.sys_moves.specs.Views.{Rows, actorWith, running, reacting, Decided, Fine, Acted}
 
 -- ---- the durable part's numbers and places
 next-is : (w : List ℕ) (p : List (List ℕ)) → durableIn w p .next .0 ≡ getD w 0 0
@@ -108,29 +108,28 @@ module _ (me : Id) (kind : Kind) (os : List InnerCommand) (t s used n : ℕ) (x 
   abbrev more : List Command
   more = choose (any durably os) (Save (noted os d) ∷ []) []
 
-  module _ (why : Answer) (e : why ≡ answerOf (refusalOf (getD w 0 0) (getD w 1 0) mostPending (sends os))) where
+  module _ (why : Answer) (said : Decided w os why) where
     as-view : why ≡ answerOf (refusalOf (d .next .0) (length (d .pending)) mostPending (sends os))
     unfolding durableIn
-    as-view = e ∙ ap (λ (k : ℕ). answerOf (refusalOf (getD w 0 0) k mostPending (sends os))) (sym places)
+    as-view = said .told ∙ ap (λ (k : ℕ). answerOf (refusalOf (getD w 0 0) k mostPending (sends os))) (sym places)
 
-    few-numbers : getD w 0 0 ≤ 18446744073709551615 → d .next .0 ≤ 18446744073709551615
+    few-numbers : d .next .0 ≤ 18446744073709551615
     unfolding durableIn
-    few-numbers h = h
+    few-numbers = said .most
 
     few-places : length (d .pending) ≤ mostPending
     few-places = let a = fine .live .pending in let c = places in omega arith
 
-    pub enough : getD w 0 0 ≤ 18446744073709551615 → isDone why ≡ true → (getD w 0 0 + sends os ≤ 18446744073709551615)
-        × (getD w 1 0 + sends os ≤ mostPending)
+    pub enough : isDone why ≡ true → (getD w 0 0 + sends os ≤ 18446744073709551615) × (getD w 1 0 + sends os ≤ mostPending)
     unfolding durableIn
-    enough h g = let z = goes-on me d mostPending os why as-view (few-numbers h) few-places g in (z .0, let a = z .1 in let c = places in omega arith)
+    enough g = let z = goes-on me d mostPending os why as-view few-numbers few-places g in (z .0, let a = z .1 in let c = places in omega arith)
 
-    pub acted-refused : getD w 0 0 ≤ 18446744073709551615 → isDone why ≡ false
+    pub acted-refused : isDone why ≡ false
         → Acted me o (λ last. last) kind used n x (record { answer = why; used = used; len = n }) x
-    acted-refused h g = record {
+    acted-refused g = record {
       fine = fine;
       runs = λ a. absurd (not-both (isDone why) a g);
-      stops = λ a hall last rs. refused-output me d os mostPending _ _ (refuses me d mostPending os why as-view (few-numbers h) few-places g);
+      stops = λ a hall last rs. refused-output me d os mostPending _ _ (refuses me d mostPending os why as-view few-numbers few-places g);
       same = λ a. (refl, refl, refl);
     }
 

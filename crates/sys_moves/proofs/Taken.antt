@@ -46,7 +46,7 @@ use Rattle.sys_reacts.proofs.Deliver.{deliver-is}
 use Rattle.sys_rows.specs.Rows.{RowsLaid, Settled, Noticed, Kept}
 use Rattle.sys_rows.proofs.Laws.{tail-at, as-stored, stored-laid}
 use Rattle.sys_rows.proofs.Sources.{noticed-word}
-use Rattle.sys_moves.specs.Views.{Rows, actorWith, running, takenIn, Fine, Acted}
+use Rattle.sys_moves.specs.Views.{Rows, actorWith, running, takenIn, Decided, Fine, Acted}
 use Rattle.sys_moves.proofs.Laws.{places-are, outputs, refused-output, asked-few, take-all}
 
 module _ (source : Id) (number : Number) (os : List InnerCommand) (w : List ℕ) (p : List (List ℕ)) (laid : RowsLaid w p) (w1 : List ℕ)
@@ -128,15 +128,14 @@ module _ (kind : Kind) (e : Envelope) (v : Number) (os : List InnerCommand) (s u
   unfolding withTaken durableIn
   next-is = refl
 
-  module _ (why : Answer) (told : why ≡ answerOf (refusalOf (getD w 0 0) (getD w 1 0) mostPending (sends os)))
-      (most : getD w 0 0 ≤ 18446744073709551615) where
+  module _ (why : Answer) (said : Decided w os why) where
     as-view : why ≡ answerOf (refusalOf (d .next .0) (length (d .pending)) mostPending (sends os))
     as-view =
-        told ∙ ap (λ (k : ℕ). answerOf (refusalOf k (getD w 1 0) mostPending (sends os))) (sym next-is)
+        said .told ∙ ap (λ (k : ℕ). answerOf (refusalOf k (getD w 1 0) mostPending (sends os))) (sym next-is)
         ∙ ap (λ (k : ℕ). answerOf (refusalOf (d .next .0) k mostPending (sends os))) (sym places)
 
     few : d .next .0 ≤ 18446744073709551615
-    few = let a = next-is in omega arith
+    few = let a = next-is in let b = said .most in omega arith
 
     least : length (d .pending) ≤ mostPending
     least = let a = fine .live .pending in let b = places in omega arith

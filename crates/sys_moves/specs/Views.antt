@@ -1,6 +1,6 @@
 -- What a step leaves of cells and rows.
 -- Assumes nothing.
-use Prim.Native.Nat.{ℕ}
+use Prim.Native.Nat.{ℕ, _≤_}
 use mathlib.Core.Path.{_≡_}
 use mathlib.Core.Bool.{true, false}
 use mathlib.Core.List.{List, [], _∷_, _++_}
@@ -16,7 +16,8 @@ use Rattle.types.specs.declared.Envelope.{Envelope}
 use Rattle.types.specs.declared.Message.the-variants.{Ack}
 use Rattle.types.specs.declared.LastMessage.{LastMessage}
 use Rattle.types.specs.declared.InnerCommand.{InnerCommand}
-use Rattle.answers.specs.Answers.{answerNumber, isDone}
+use Rattle.answers.specs.declared.Answer.{Answer}
+use Rattle.answers.specs.Answers.{answerOf, answerNumber, isDone}
 use Rattle.rules.specs.Outcome.{Outcome, done, refused, bind, Caps}
 use Rattle.rules.specs.Network.{Net, onDeliver}
 use Rattle.rules.specs.Link.{Durable, Output, Command, Send, Save, acked, withTaken, output}
@@ -24,10 +25,11 @@ use Rattle.rules.specs.System.{Actor, Sys, systems, runCommands, perform, wake,
 use Rattle.link_timers.specs.Views.{listed}
 use Rattle.net_rows.specs.declared.Sent.{Sent}
 use Rattle.net_rows.specs.Views.{netOf, roomOf, NetReady}
+use Rattle.link_direct.specs.Direct.{sends}
 use Rattle.link_tables.specs.Rows.{mark}
 use Rattle.link_rows.specs.Rows.{durableIn}
 use Rattle.sys_seat.specs.Seat.{Around, holding}
-use Rattle.sys_reacts.specs.Views.{limitsOf, lastAfter}
+use Rattle.sys_reacts.specs.Views.{limitsOf, refusalOf, lastAfter}
 use Rattle.sys_rows.specs.Rows.{storedIn, actorOf, RowsLaid}
 
 -- The room is the cells', the places are the rows'.
@@ -90,6 +92,11 @@ takenIn kind e v os s used x hall last rs =
     bind (onDeliver e (netOf kind last (x .cells) used)) (λ n.
     bind (output (limitsOf mostPending) (e .dst) (withTaken (e .src) v (durableIn (x .live) (x .pend))) os) (λ o.
     running (e .dst) hall (Send (e .src) (Ack v) ∷ (o .commands ++ Save (o .durable) ∷ [])) n rs (getD (x .live) 6 0) (o .durable) s x))
+
+-- 6 and 7 of so many commands, by what a live row has left.
+pub record Decided (w : List ℕ) (os : List InnerCommand) (why : Answer) : Type 0 where
+  pub told : why ≡ answerOf (refusalOf (getD w 0 0) (getD w 1 0) mostPending (sends os))
+  pub most : getD w 0 0 ≤ 18446744073709551615
 
 -- ---- what a step asks of the rows, and leaves
 pub record Fine (kind : Kind) (used n : ℕ) (x : Rows) : Type 0 where

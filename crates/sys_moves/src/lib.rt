@@ -21,7 +21,7 @@ use types::MOST_TOLD;
 use types::Number;
 ghost use mathlib.Core.Path.{_≡_};
 ghost use mathlib.Core.List.{[], _∷_};
-ghost use Prim.Native.Nat.{_+_, _≤_, _<_};
+ghost use Prim.Native.Nat.{ℕ, _+_, _≤_, _<_};
 ghost use lib.ListN.{length, getD};
 ghost use Rattle.lists.specs.Lists.{choose};
 ghost use Rattle.types.specs.Capacities.{mostEntries, mostPending, mostActors, lastState};
@@ -31,11 +31,19 @@ ghost use Rattle.rules.specs.Link.{Send, withTaken};
 ghost use Rattle.net_rows.specs.Views.{NetReady};
 ghost use Rattle.link_direct.specs.Direct.{noted, sends};
 ghost use Rattle.link_tables.specs.Rows.{RowLaid, orders};
-ghost use Rattle.link_rows.specs.Rows.{durableIn};
+ghost use Rattle.link_rows.specs.Rows.{rowSize, durableIn};
 ghost use Rattle.sys_reacts.specs.declared.First.the-variants as first;
 ghost use Rattle.sys_reacts.specs.Views.{lastAfter, there, Safe};
 ghost use Rattle.sys_rows.specs.Rows.{RowsLaid, Settled, Kept};
-ghost use Rattle.sys_moves.specs.Views.{rowsOf, reacting, ackedIn, takenIn, Fine, Acted};
+ghost use Rattle.sys_moves.specs.Views.{rowsOf, reacting, ackedIn, takenIn, Decided, Fine, Acted};
+
+// 6 and 7 of a rule's row: decided by what the live row has left.
+fn refusal_of(live: &[u64; ROW], row: &[u64]) -> Answer
+    requires { ⌜ RowLaid (now row) × (length (now live) ≡ rowSize) × (getD (now live) 1 0 ≤ mostPending) ⌝ }
+    ensures { λ r. ⌜ ((source : Id) (value : ℕ) → Decided (now (live .entry)) (orders (now (row .entry)) source value) r) ⌝ }
+{
+    refusal(live[0], live[1], MOST_PENDING as u64, row[14])
+}
 
 // The commands of a rule's row, with these timers and this state: 6, 7 or 8 and nothing changed, or all of it done.
 pub fn by_rule(
@@ -61,8 +69,7 @@ pub fn by_rule(
         r (rowsOf (now (c .exit)) (now (live .exit)) (now (pend .exit)) (now (kept .exit)) (now (stored .exit))) ⌝ }
 {
     let next = live[0];
-    let pending = live[1];
-    let why = refusal(next, pending, MOST_PENDING as u64, row[14]);
+    let why = refusal_of(live, row);
     if !is_done(why) {
         return Sent {
             answer: why,
@@ -239,9 +246,8 @@ pub fn on_message(
         r (rowsOf (now (c .exit)) (now (live .exit)) (now (pend .exit)) (now (kept .exit)) (now (stored .exit))) ⌝ }
 {
     let next = live[0];
-    let pending = live[1];
     let timers = live[6] as u32;
-    let why = refusal(next, pending, MOST_PENDING as u64, row[14]);
+    let why = refusal_of(live, row);
     if !is_done(why) {
         let b = when_refused(c, kind, used, len, e, why);
         return Sent {

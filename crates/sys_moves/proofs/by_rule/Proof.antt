@@ -1,13 +1,7 @@
-use native.Mathlib.Omega.{arith}
-use Prim.Native.Nat.{ℕ, _≤_}
-use mathlib.Core.Path.{_≡_, sym, ap, _∙_}
-use lib.ListN.{getD}
-use Rattle.types.specs.Capacities.{mostPending}
+use mathlib.Core.Path.{sym, _∙_}
 use borrow.Author.Tests.{not-true, not-false, eq-eqb, ne-eqb}
-use Rattle.answers.specs.Answers.{answerOf}
 use Rattle.link_tables.specs.Rows.{orders}
 use Rattle.link_tables.proofs.Told.{row-four}
-use Rattle.sys_reacts.specs.Views.{refusalOf}
 use Rattle.sys_moves.specs.Views.{Rows, rowsOf}
 use Rattle.sys_moves.proofs.Laws.{enough, acted-refused, acted-full, acted-plain, acted-stored}
 use borrow.Author.Needs.{needs}
@@ -15,43 +9,33 @@ use Rattle.sys_moves.proofs.by_rule.Statement.{statement}
 use Rattle.sys_moves.proofs.by_rule.Tie as tie
 
 element-copy-out-next : tie.Need-element-copy-out-next
-element-copy-out-next c = let z = (c .before .pre) .0 .live .room in search needs
+element-copy-out-next c = let z = c .before .pre .0 .live .room in search needs
 
-element-copy-out-pending : tie.Need-element-copy-out-pending
-element-copy-out-pending c = let z = (c .before .before .pre) .0 .live .room in search needs
-
-shared-slice-read-refusal : tie.Need-shared-slice-read-refusal
-shared-slice-read-refusal c = let z = (c .before .before .before .before .pre) .1 .room in search needs
-
-refusal-requires : tie.Need-refusal-requires
-refusal-requires c κs = let z = (c .before .before .before .before .pre) .0 .live .pending in search needs
+refusal-of-requires : tie.Need-refusal-of-requires
+refusal-of-requires c κs = let s = c .before .before .before in (s .pre .1, s .pre .0 .live .room, s .pre .0 .live .pending)
 
 is-done-requires : tie.Need-is-done-requires
 is-done-requires c κs = search needs
 
 returns : tie.Need-returns
 returns c =
-    let s = (c .before .before .before .before .before .before .before) in
+    let s = c .before .before .before .before .before .before in
     let a = s .args in
     let os = orders (a .row .now) (a .source) (a .value) in
     let x : Rows = rowsOf (a .c .now) (a .live .now) (a .pend .now) (a .kept .now) (a .stored .now) in
-    let h : getD (a .live .now) 0 0 ≤ 18446744073709551615 = (c .before .before .refusal) .ensures .1 in
-    let e = (c .before .before .refusal) .ensures .0 ∙ ap (λ (k : ℕ). answerOf
-    (refusalOf (getD (a .live .now) 0 0) (getD (a .live .now) 1 0) mostPending k)) (s .pre .1 .sends (a .source) (a .value)) in
-    acted-refused (a .me) (a .kind) os (a .timers) (a .state) (a .used) (a .len) x (s .pre .0) ((c .before .before .refusal) .result) e h
-    (sym ((c .before .is-done) .ensures) ∙ not-true _ ((c .if1) .taken))
+    let why = c .before .before .refusal-of in
+    acted-refused (a .me) (a .kind) os (a .timers) (a .state) (a .used) (a .len) x (s .pre .0) (why .result) (why .ensures (a .source) (a .value))
+    (sym (c .before .is-done .ensures) ∙ not-true _ (c .if1 .taken))
 
 react-row-requires : tie.Need-react-row-requires
 react-row-requires c κs =
-    let s = (c .before .before .before .before .before .before .before .before) in
+    let s = c .before .before .before .before .before .before .before in
     let a = s .args in
     let os = orders (a .row .now) (a .source) (a .value) in
     let x : Rows = rowsOf (a .c .now) (a .live .now) (a .pend .now) (a .kept .now) (a .stored .now) in
-    let h : getD (a .live .now) 0 0 ≤ 18446744073709551615 = (c .before .before .before .refusal) .ensures .1 in
-    let e = (c .before .before .before .refusal) .ensures .0
-    ∙ ap (λ (k : ℕ). answerOf (refusalOf (getD (a .live .now) 0 0) (getD (a .live .now) 1 0) mostPending k)) (s .pre .1 .sends (a .source) (a .value)) in
-    let g = enough (a .me) (a .kind) os (a .timers) (a .state) (a .used) (a .len) x (s .pre .0) ((c .before .before .before .refusal) .result) e h
-    (sym ((c .before .before .is-done) .ensures) ∙ not-false _ ((c .before .if1) .left)) in
+    let why = c .before .before .before .refusal-of in
+    let g = enough (a .me) (a .kind) os (a .timers) (a .state) (a .used) (a .len) x (s .pre .0) (why .result)
+    (why .ensures (a .source) (a .value)) (sym (c .before .before .is-done .ensures) ∙ not-false _ (c .before .if1 .left)) in
     (s .pre .0 .net, s .pre .1, g .0, s .pre .0 .room)
 
 is-done-requires-2 : tie.Need-is-done-requires-2
@@ -59,105 +43,75 @@ is-done-requires-2 c κs = search needs
 
 returns-2 : tie.Need-returns-2
 returns-2 c =
-    let s = (c .before .before .before .before .before .before .before .before .before .before .before) in
+    let s = c .before .before .before .before .before .before .before .before .before .before in
     let a = s .args in
     let os = orders (a .row .now) (a .source) (a .value) in
     let x : Rows = rowsOf (a .c .now) (a .live .now) (a .pend .now) (a .kept .now) (a .stored .now) in
-    let h : getD (a .live .now) 0 0 ≤ 18446744073709551615 = (c .before .before .before .before .before .before .refusal) .ensures .1 in
-    let e = (c .before .before .before .before .before .before .refusal) .ensures .0
-    ∙ ap (λ (k : ℕ). answerOf (refusalOf (getD (a .live .now) 0 0) (getD (a .live .now) 1 0) mostPending k)) (s .pre .1 .sends (a .source) (a .value)) in
-    let g = enough (a .me) (a .kind) os (a .timers) (a .state) (a .used) (a .len) x (s .pre .0)
-    ((c .before .before .before .before .before .before .refusal) .result) e h
-    (sym ((c .before .before .before .before .before .is-done) .ensures) ∙ not-false _ ((c .before .before .before .before .if1) .left)) in
-    acted-full (a .me) (a .kind) os (a .timers) (a .state) (a .used) (a .len) x (s .pre .0) (g .0) (g .1)
-    (row-four (a .row .now) (a .source) (a .value) (s .pre .1)) ((c .before .before .react-row) .result) ((c .before .before .react-row) .last .0) (a .source)
-    ((c .before .before .react-row) .ensures) (sym ((c .before .is-done2) .ensures) ∙ not-true _ ((c .if2) .taken))
+    let why = c .before .before .before .before .before .before .refusal-of in
+    let g = enough (a .me) (a .kind) os (a .timers) (a .state) (a .used) (a .len) x (s .pre .0) (why .result)
+    (why .ensures (a .source) (a .value)) (sym (c .before .before .before .before .before .is-done .ensures) ∙ not-false _ (c .before .before .before .before .if1 .left)) in
+    let y = c .before .before .react-row in
+    acted-full (a .me) (a .kind) os (a .timers) (a .state) (a .used) (a .len) x (s .pre .0) (g .0) (g .1) (row-four (a .row .now) (a .source) (a .value) (s .pre .1))
+    (y .result) (y .last .0) (a .source) (y .ensures) (sym (c .before .is-done2 .ensures) ∙ not-true _ (c .if2 .taken))
 
 settle-requires : tie.Need-settle-requires
 settle-requires c κs =
-    let s = (c .before .before .before .before .before .before .before .before .before .before .before .before .before) in
+    let s = c .before .before .before .before .before .before .before .before .before .before .before .before in
     let a = s .args in
     let os = orders (a .row .now) (a .source) (a .value) in
     let x : Rows = rowsOf (a .c .now) (a .live .now) (a .pend .now) (a .kept .now) (a .stored .now) in
-    let h : getD (a .live .now) 0 0 ≤ 18446744073709551615 = (c .before .before .before .before .before .before .before .before .refusal) .ensures .1 in
-    let e = (c .before .before .before .before .before .before .before .before .refusal) .ensures .0
-    ∙ ap (λ (k : ℕ). answerOf (refusalOf (getD (a .live .now) 0 0) (getD (a .live .now) 1 0) mostPending k)) (s .pre .1 .sends (a .source) (a .value)) in
-    let g = enough (a .me) (a .kind) os (a .timers) (a .state) (a .used) (a .len) x (s .pre .0)
-    ((c .before .before .before .before .before .before .before .before .refusal) .result) e h
-    (sym ((c .before .before .before .before .before .before .before .is-done) .ensures)
-    ∙ not-false _ ((c .before .before .before .before .before .before .if1) .left)) in
+    let why = c .before .before .before .before .before .before .before .before .refusal-of in
+    let g = enough (a .me) (a .kind) os (a .timers) (a .state) (a .used) (a .len) x (s .pre .0) (why .result)
+    (why .ensures (a .source) (a .value)) (sym (c .before .before .before .before .before .before .before .is-done .ensures) ∙ not-false _ (c .before .before .before .before .before .before .if1 .left)) in
     (s .pre .1, s .pre .0 .live, s .pre .2, g .1, g .0)
 
 shared-slice-read-if3 : tie.Need-shared-slice-read-if3
 shared-slice-read-if3 c =
-    let z = (c .before .before .before .before .before .before .before .before .before .before .before .before .before .before .before .pre) .1 .room in
+    let z = c .before .before .before .before .before .before .before .before .before .before .before .before .before .before .pre .1 .room in
     search needs
 
 store-requires : tie.Need-store-requires
 store-requires c κs =
-    let s = c .before .before .before .before .before .before .before .before .before .before .before .before .before .before .before .before .before .before
-    .before .before in
+    let s = c .before .before .before .before .before .before .before .before .before .before .before .before .before .before .before .before .before .before .before in
     (c .before .before .before .before .before .before .settle .ensures .laid, s .pre .0 .kept .places)
 
 returns-3 : tie.Need-returns-3
 returns-3 c =
-    let s = (c .before .before .before .before .before .before .before .before .before .before .before .before .before .before .before .before .before .before
-    .before .before .before) in
+    let s = c .before .before .before .before .before .before .before .before .before .before .before .before .before .before .before .before .before .before .before .before in
     let a = s .args in
     let os = orders (a .row .now) (a .source) (a .value) in
     let x : Rows = rowsOf (a .c .now) (a .live .now) (a .pend .now) (a .kept .now) (a .stored .now) in
-    let h : getD (a .live .now) 0 0 ≤ 18446744073709551615 =
-    (c .before .before .before .before .before .before .before .before .before .before .before .before .before .before .before .before .refusal) .ensures .1 in
-    let e = (c .before .before .before .before .before .before .before .before .before .before .before .before .before .before .before .before .refusal)
-    .ensures .0 ∙ ap (λ (k : ℕ). answerOf (refusalOf (getD (a .live .now) 0 0) (getD (a .live .now) 1 0) mostPending k))
-    (s .pre .1 .sends (a .source) (a .value)) in
-    let g = enough (a .me) (a .kind) os (a .timers) (a .state) (a .used) (a .len) x (s .pre .0)
-    ((c .before .before .before .before .before .before .before .before .before .before .before .before .before .before .before .before .refusal) .result) e h
-    (sym ((c .before .before .before .before .before .before .before .before .before .before .before .before .before .before .before .is-done) .ensures)
-    ∙ not-false _ ((c .before .before .before .before .before .before .before .before .before .before .before .before .before .before .if1) .left)) in
-    acted-stored (a .me) (a .kind) os (a .timers) (a .state) (a .used) (a .len) x (s .pre .0) (g .0) (g .1)
-    (row-four (a .row .now) (a .source) (a .value) (s .pre .1))
-    ((c .before .before .before .before .before .before .before .before .before .before .before .before .react-row) .result)
-    ((c .before .before .before .before .before .before .before .before .before .before .before .before .react-row) .last .0) (a .source)
-    ((c .before .before .before .before .before .before .before .before .before .before .before .before .react-row) .ensures)
-    (sym ((c .before .before .before .before .before .before .before .before .before .before .before .is-done2) .ensures)
-    ∙ not-false _ ((c .before .before .before .before .before .before .before .before .before .before .if2) .left))
-    ((c .before .before .before .before .before .before .before .settle) .last .0)
-    ((c .before .before .before .before .before .before .before .settle) .last .1 .0)
-    ((c .before .before .before .before .before .before .before .settle) .ensures)
-    (sym (s .pre .1 .durable (a .source) (a .value)) ∙ eq-eqb _ _ ((c .before .before .before .before .before .if3) .taken)) ((c .store) .last .1 .1 .0)
-    ((c .store) .last .1 .1 .1 .0) ((c .store) .ensures)
+    let why = c .before .before .before .before .before .before .before .before .before .before .before .before .before .before .before .before .refusal-of in
+    let g = enough (a .me) (a .kind) os (a .timers) (a .state) (a .used) (a .len) x (s .pre .0) (why .result)
+    (why .ensures (a .source) (a .value)) (sym (c .before .before .before .before .before .before .before .before .before .before .before .before .before .before .before .is-done .ensures) ∙ not-false _ (c .before .before .before .before .before .before .before .before .before .before .before .before .before .before .if1 .left)) in
+    let y = c .before .before .before .before .before .before .before .before .before .before .before .before .react-row in
+    let z = c .before .before .before .before .before .before .before .settle in
+    acted-stored (a .me) (a .kind) os (a .timers) (a .state) (a .used) (a .len) x (s .pre .0) (g .0) (g .1) (row-four (a .row .now) (a .source) (a .value) (s .pre .1))
+    (y .result) (y .last .0) (a .source) (y .ensures) (sym (c .before .before .before .before .before .before .before .before .before .before .before .is-done2 .ensures) ∙ not-false _ (c .before .before .before .before .before .before .before .before .before .before .if2 .left))
+    (z .last .0) (z .last .1 .0) (z .ensures) (sym (s .pre .1 .durable (a .source) (a .value)) ∙ eq-eqb _ _ (c .before .before .before .before .before .if3 .taken))
+    (c .store .last .1 .1 .0) (c .store .last .1 .1 .1 .0) (c .store .ensures)
 
 returns-4 : tie.Need-returns-4
 returns-4 c =
-    let s = (c .before .before .before .before .before .before .before .before .before .before .before .before .before .before .before .before) in
+    let s = c .before .before .before .before .before .before .before .before .before .before .before .before .before .before .before in
     let a = s .args in
     let os = orders (a .row .now) (a .source) (a .value) in
     let x : Rows = rowsOf (a .c .now) (a .live .now) (a .pend .now) (a .kept .now) (a .stored .now) in
-    let h : getD (a .live .now) 0 0 ≤ 18446744073709551615 =
-    (c .before .before .before .before .before .before .before .before .before .before .before .refusal) .ensures .1 in
-    let e = (c .before .before .before .before .before .before .before .before .before .before .before .refusal) .ensures .0
-    ∙ ap (λ (k : ℕ). answerOf (refusalOf (getD (a .live .now) 0 0) (getD (a .live .now) 1 0) mostPending k)) (s .pre .1 .sends (a .source) (a .value)) in
-    let g = enough (a .me) (a .kind) os (a .timers) (a .state) (a .used) (a .len) x (s .pre .0)
-    ((c .before .before .before .before .before .before .before .before .before .before .before .refusal) .result) e h
-    (sym ((c .before .before .before .before .before .before .before .before .before .before .is-done) .ensures)
-    ∙ not-false _ ((c .before .before .before .before .before .before .before .before .before .if1) .left)) in
-    acted-plain (a .me) (a .kind) os (a .timers) (a .state) (a .used) (a .len) x (s .pre .0) (g .0) (g .1)
-    (row-four (a .row .now) (a .source) (a .value) (s .pre .1)) ((c .before .before .before .before .before .before .before .react-row) .result)
-    ((c .before .before .before .before .before .before .before .react-row) .last .0) (a .source)
-    ((c .before .before .before .before .before .before .before .react-row) .ensures)
-    (sym ((c .before .before .before .before .before .before .is-done2) .ensures) ∙ not-false _ ((c .before .before .before .before .before .if2) .left))
-    ((c .before .before .settle) .last .0) ((c .before .before .settle) .last .1 .0) ((c .before .before .settle) .ensures)
-    (sym (s .pre .1 .durable (a .source) (a .value)) ∙ ne-eqb _ _ ((c .if3) .left))
+    let why = c .before .before .before .before .before .before .before .before .before .before .before .refusal-of in
+    let g = enough (a .me) (a .kind) os (a .timers) (a .state) (a .used) (a .len) x (s .pre .0) (why .result)
+    (why .ensures (a .source) (a .value)) (sym (c .before .before .before .before .before .before .before .before .before .before .is-done .ensures) ∙ not-false _ (c .before .before .before .before .before .before .before .before .before .if1 .left)) in
+    let y = c .before .before .before .before .before .before .before .react-row in
+    let z = c .before .before .settle in
+    acted-plain (a .me) (a .kind) os (a .timers) (a .state) (a .used) (a .len) x (s .pre .0) (g .0) (g .1) (row-four (a .row .now) (a .source) (a .value) (s .pre .1))
+    (y .result) (y .last .0) (a .source) (y .ensures) (sym (c .before .before .before .before .before .before .is-done2 .ensures) ∙ not-false _ (c .before .before .before .before .before .if2 .left))
+    (z .last .0) (z .last .1 .0) (z .ensures) (sym (s .pre .1 .durable (a .source) (a .value)) ∙ ne-eqb _ _ (c .if3 .left))
 
 pub by-rule-spec : {M : Type 1} → statement M
 by-rule-spec =
     tie.close
     (tie.spec
     element-copy-out-next
-    element-copy-out-pending
-    shared-slice-read-refusal
-    refusal-requires
+    refusal-of-requires
     is-done-requires
     returns
     react-row-requires
