@@ -1,12 +1,11 @@
 -- A rule's commands: the link's output, run, is what the code does.
 -- Assumes nothing.
-use Prim.Native.Nat.{ℕ, zero, suc, _+_, _-_, _≤_, _<_}
+use Prim.Native.Nat.{ℕ, zero, suc, _+_, _-_, _≤_}
 use native.Mathlib.Omega.{arith}
-use mathlib.Core.Path.{_≡_, refl, sym, ap, _∙_, subst}
+use mathlib.Core.Path.{_≡_, refl, sym, ap, _∙_}
 use mathlib.Core.Bool.{Bool, true, false}
-use mathlib.Core.Option.{Option, none, some}
-use mathlib.Core.List.{List, [], _∷_, _++_, map, append-nil}
-use lib.ListN.{length, take, getD, set, length-map}
+use mathlib.Core.List.{List, [], _∷_, _++_}
+use lib.ListN.{length, take, getD, length-map}
 use lib.Seq.{length-take-le}
 use Rattle.lists.specs.Lists.{choose, any}
 use Rattle.types.specs.Capacities.{mostPending, mostCommands, mostTold}
@@ -17,7 +16,7 @@ use Rattle.answers.specs.declared.Answer.{Answer}
 use Rattle.types.specs.declared.LastMessage.{LastMessage}
 use Rattle.types.specs.declared.InnerCommand.{InnerCommand}
 use Rattle.types.specs.declared.InnerCommand.the-variants as inner
-use Rattle.answers.specs.Answers.{answerOf, answerNumber}
+use Rattle.answers.specs.Answers.{answerOf}
 use Rattle.rules.specs.Inner.{told}
 use Rattle.rules.specs.Outcome.{Outcome, done, refused, bind}
 use Rattle.rules.specs.Link.{Durable, Command, Save, Output, process, durably, thenSave, output}
@@ -25,10 +24,9 @@ use Rattle.rules.specs.System.{Actor, Sys, withTimers, withStorage, runCommands
 use Rattle.sys_seat.specs.Seat.{Around, holding}
 use Rattle.sys_seat.proofs.Seats.{run-append, run-save}
 use Rattle.link_timers.specs.Views.{listed}
-use Rattle.net_rows.specs.declared.Sent.{Sent}
-use Rattle.net_rows.specs.Views.{netOf, roomOf, NetReady}
+use Rattle.net_rows.specs.Views.{netOf, roomOf}
 use Rattle.link_direct.specs.Direct.{asked, noted, sends}
-use Rattle.link_direct.proofs.Laws.{Goes, goes}
+use Rattle.link_direct.proofs.Laws.{goes}
 use Rattle.link_direct.proofs.Apart.{processed}
 use Rattle.link_rows.specs.Rows.{pendingIn, durableIn}
 use Rattle.answers.specs.Answers.{isDone}
@@ -38,9 +36,8 @@ use Rattle.sys_emits.proofs.Laws.{not-both}
 use Rattle.sys_reacts.specs.Views.{limitsOf, refusalOf, frontOf, Safe}
 use Rattle.sys_reacts.specs.declared.First.the-variants as first
 use Rattle.sys_reacts.proofs.Laws.{goes-on, refuses}
-use Rattle.sys_rows.specs.Rows.{RowsLaid, Settled, Kept}
+use Rattle.sys_rows.specs.Rows.{Settled, Kept}
 use Rattle.sys_rows.proofs.Laws.{as-settled, as-stored, stored-laid}
-use Rattle.link_tables.specs.Rows.{RowLaid, orders, commandsIn}
 use Rattle.sys_moves.specs.Views.{Rows, actorWith, running, reacting, Decided, Fine, Acted}
 
 -- ---- the durable part's numbers and places

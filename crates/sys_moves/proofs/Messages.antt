@@ -2,11 +2,10 @@
 -- Assumes nothing.
 use Prim.Native.Nat.{ℕ, _+_, _≤_}
 use native.Mathlib.Omega.{arith}
-use mathlib.Core.Path.{_≡_, refl, sym, ap, _∙_, subst}
+use mathlib.Core.Path.{_≡_, sym, ap, _∙_, subst}
 use mathlib.Core.Bool.{Bool, true, false}
 use mathlib.Core.List.{List, [], _∷_, _++_}
-use lib.ListN.{length, take, getD, set}
-use Rattle.lists.specs.Lists.{choose}
+use lib.ListN.{take, getD}
 use Rattle.types.specs.Capacities.{mostTold}
 use Rattle.types.specs.declared.Id.{Id}
 use Rattle.types.specs.declared.Number.{Number}
@@ -20,7 +19,7 @@ use Rattle.answers.specs.declared.Answer.{Answer}
 use Rattle.answers.specs.Answers.{answerOf, answerNumber, isDone}
 use Rattle.rules.specs.Outcome.{Outcome, done, refused, bind, guard}
 use Rattle.rules.specs.Network.{Net, delivering, onDeliver}
-use Rattle.rules.specs.Link.{Durable, Command, Send, Save, acked}
+use Rattle.rules.specs.Link.{Durable, Send, Save, acked}
 use Rattle.rules.specs.System.{Actor, Sys, withStorage, runCommands}
 use Rattle.net_rows.specs.declared.Sent.{Sent}
 use Rattle.net_rows.specs.Views.{netOf, roomOf, NetReady, Changed}
@@ -32,11 +31,11 @@ use Rattle.sys_seat.specs.Seat.{Around, holding}
 use Rattle.sys_seat.proofs.Seats.{run-save}
 use Rattle.sys_emits.proofs.Laws.{not-both}
 use Rattle.sys_reacts.specs.declared.First.the-variants as first
-use Rattle.sys_reacts.specs.Views.{frontOf, lastAfter, there}
+use Rattle.sys_reacts.specs.Views.{frontOf, lastAfter}
 use Rattle.sys_reacts.proofs.Deliver.{deliver-is, there-true, there-false, delivered-net}
 use Rattle.sys_rows.specs.Rows.{actorOf, Settled, Kept}
 use Rattle.sys_rows.proofs.Laws.{as-stored, stored-laid}
-use Rattle.sys_moves.specs.Views.{Rows, actorAt, running, ackedIn, Fine, Acted}
+use Rattle.sys_moves.specs.Views.{Rows, running, ackedIn, Fine, Acted}
 
 -- ---- an Ack
 module _ (kind : Kind) (e : Envelope) (v : Number) (x : Rows) (used n : ℕ) (fine : Fine kind used n x) (s : Sent) (cs' : List (List ℕ))

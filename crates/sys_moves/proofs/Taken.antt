@@ -6,7 +6,7 @@ use mathlib.Core.Path.{_≡_, refl, sym, ap, _∙_}
 use mathlib.Core.Bool.{Bool, true, false, not, _||_}
 use mathlib.Core.Option.{some}
 use mathlib.Core.List.{List, [], _∷_, _++_, append-assoc}
-use lib.ListN.{length, take, getD, set}
+use lib.ListN.{length, take, getD}
 use Rattle.lists.specs.Lists.{choose, any, lead}
 use Rattle.net_slots.proofs.Tests.{any-yes, any-no}
 use Rattle.types.specs.Capacities.{mostPending, mostCommands, mostTold}
@@ -25,7 +25,7 @@ use Rattle.answers.specs.declared.Answer.the-variants.{Absent}
 use Rattle.answers.specs.Answers.{answerOf, answerNumber, isDone}
 use Rattle.rules.specs.Outcome.{Outcome, done, refused, bind, guard}
 use Rattle.rules.specs.Network.{Net, delivering, isDuplicating, present, onDeliver}
-use Rattle.rules.specs.Link.{Durable, Command, Send, Save, Output, withTaken, durably, output}
+use Rattle.rules.specs.Link.{Durable, Command, Send, Save, withTaken, durably, output}
 use Rattle.rules.specs.System.{Actor, Sys, withTimers, withStorage, runCommands}
 use Rattle.link_timers.specs.Views.{listed}
 use Rattle.net_rows.specs.Views.{entryList, netOf, roomOf, NetReady}

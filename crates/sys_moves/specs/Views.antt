@@ -20,7 +20,7 @@ use Rattle.answers.specs.declared.Answer.{Answer}
 use Rattle.answers.specs.Answers.{answerOf, answerNumber, isDone}
 use Rattle.rules.specs.Outcome.{Outcome, done, refused, bind, Caps}
 use Rattle.rules.specs.Network.{Net, onDeliver}
-use Rattle.rules.specs.Link.{Durable, Output, Command, Send, Save, acked, withTaken, output}
+use Rattle.rules.specs.Link.{Durable, Command, Send, Save, acked, withTaken, output}
 use Rattle.rules.specs.System.{Actor, Sys, systems, runCommands, perform, wake, act}
 use Rattle.link_timers.specs.Views.{listed}
 use Rattle.net_rows.specs.declared.Sent.{Sent}

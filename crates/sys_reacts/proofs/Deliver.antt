@@ -1,13 +1,12 @@
 -- A delivery, the commands after it, and what is put back.
 -- Assumes nothing.
-use Prim.Native.Nat.{ℕ, zero, suc, _+_, _-_, _≤_, _<_}
+use Prim.Native.Nat.{ℕ, _+_, _-_, _≤_}
 use native.Mathlib.Omega.{arith}
 use mathlib.Core.Path.{_≡_, refl, sym, ap, _∙_, subst}
 use mathlib.Core.Bool.{Bool, true, false, _||_}
 use mathlib.Core.List.{List, [], _∷_, _++_}
 use lib.ListN.{length, take}
 use lib.Dec.{leb}
-use borrow.Author.Tests.{leb-false}
 use Rattle.types.specs.Capacities.{mostCopies}
 use Rattle.lists.specs.Lists.{choose, cut}
 use Rattle.lists.proofs.Members.{cut-length}
@@ -28,10 +27,10 @@ use Rattle.rules.specs.Link.{Command, Send}
 use Rattle.rules.specs.System.{Actor, Sys, unstarted, withTimers, runCommands}
 use Rattle.sys_seat.specs.Seat.{Around, holding}
 use Rattle.sys_seat.proofs.Seats.{some-hall}
-use Rattle.sys_seat.proofs.Rooms.{sent, Runs, runs}
+use Rattle.sys_seat.proofs.Rooms.{sent, runs}
 use Rattle.link_timers.specs.Views.{listed}
 use Rattle.net_rows.specs.declared.Sent.{Sent}
-use Rattle.net_rows.specs.Views.{entryList, netOf, roomOf, NetReady, Changed}
+use Rattle.net_rows.specs.Views.{netOf, roomOf, NetReady, Changed}
 use Rattle.net_rows.proofs.Ready.{deliver-ready}
 use Rattle.net_rows.proofs.Laws.{used-is}
 use Rattle.link_direct.specs.Direct.{asked}

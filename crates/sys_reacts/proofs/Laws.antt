@@ -3,39 +3,35 @@
 use Prim.Native.Nat.{ℕ, zero, suc, _+_, _-_, _≤_, _<_}
 use native.Mathlib.Omega.{arith}
 use native.Mathlib.Decide.{decLt}
-use mathlib.Core.Path.{_≡_, refl, sym, ap, _∙_, subst}
+use mathlib.Core.Path.{_≡_, refl, sym, ap, _∙_}
 use mathlib.Core.Bool.{Bool, true, false, _&&_}
-use mathlib.Core.List.{List, [], _∷_, _++_, map}
-use lib.ListN.{length, take, getD, length-map}
-use lib.Seq.{length-take-le}
+use mathlib.Core.List.{List, [], _∷_, _++_}
+use lib.ListN.{length, take}
 use lib.Dec.{leb}
-use borrow.Author.Tests.{le-leb, lt-leb, leb-true}
+use borrow.Author.Tests.{le-leb, lt-leb}
 use Rattle.types.specs.Capacities.{mostCopies}
 use Rattle.lists.specs.Lists.{choose}
 use Rattle.types.specs.declared.Id.{Id}
 use Rattle.types.specs.declared.Number.{Number}
 use Rattle.types.specs.declared.Kind.{Kind}
-use Rattle.types.specs.declared.Envelope.{Envelope}
 use Rattle.answers.specs.declared.Answer.{Answer}
-use Rattle.answers.specs.declared.Answer.the-variants.{Done, NumbersUsedUp, PendingFull, NetworkFull}
+use Rattle.answers.specs.declared.Answer.the-variants.{Done, NumbersUsedUp, PendingFull}
 use Rattle.types.specs.declared.LastMessage.{LastMessage}
 use Rattle.types.specs.declared.LastMessage.the-variants as last
 use Rattle.types.specs.declared.Message.the-variants.{Ack}
 use Rattle.types.specs.declared.InnerCommand.{InnerCommand}
-use Rattle.types.specs.declared.InnerCommand.the-variants as inner
 use Rattle.answers.specs.Answers.{answerOf, answerNumber}
-use Rattle.rules.specs.Inner.{told}
-use Rattle.rules.specs.Outcome.{Outcome, done, refused, bind, Room}
-use Rattle.rules.specs.Network.{Net, send, len}
+use Rattle.rules.specs.Outcome.{refused, Room}
+use Rattle.rules.specs.Network.{send, len}
 use Rattle.rules.specs.Link.{Durable, Command, Set, Cancel, Send, Save, process}
 use Rattle.rules.specs.System.{Actor, withNet, runCommands}
 use Rattle.sys_seat.specs.Seat.{Around}
 use Rattle.sys_seat.proofs.Rooms.{sent, sent-asked}
 use Rattle.net_rows.specs.declared.Sent.{Sent}
-use Rattle.net_rows.specs.Views.{entryList, netOf, roomOf, NetReady, Changed}
+use Rattle.net_rows.specs.Views.{netOf, roomOf, NetReady, Changed}
 use Rattle.net_rows.proofs.Ready.{send-ready}
 use Rattle.link_direct.specs.Direct.{asked, sends}
-use Rattle.link_direct.proofs.Laws.{Goes, goes, no-numbers, no-places}
+use Rattle.link_direct.proofs.Laws.{no-numbers, no-places}
 use Rattle.answers.specs.Answers.{isDone}
 use Rattle.sys_emits.specs.declared.Emitted.{Emitted}
 use Rattle.sys_emits.specs.Views.{sysIn, Ran}

@@ -19,9 +19,8 @@ use Rattle.types.specs.declared.LastMessage.{LastMessage}
 use Rattle.types.specs.declared.Message.the-variants.{Deliver}
 use Rattle.types.specs.declared.InnerCommand.{InnerCommand}
 use Rattle.types.specs.declared.Action.the-variants.{Timeout}
-use Rattle.answers.specs.declared.Answer.{Answer}
 use Rattle.answers.specs.declared.Answer.the-variants.{Done, Ignored, OutOfRange, NotSet}
-use Rattle.answers.specs.Answers.{answerNumber, isDone}
+use Rattle.answers.specs.Answers.{isDone}
 use Rattle.rules.specs.Outcome.{Outcome, done, refused, bind, Room}
 use Rattle.rules.specs.Inner.{Reply, reply, ignored, nobody}
 use Rattle.rules.specs.Timers.{isSet, cancelTimer}

@@ -1,9 +1,8 @@
-use mathlib.Core.Path.{refl, sym, _∙_, subst}
+use mathlib.Core.Path.{refl, subst}
 use mathlib.Core.List.{List}
 use Rattle.rules.specs.Link.{Command}
 use Rattle.sys_reacts.specs.declared.First.the-variants.{Message}
 use Rattle.sys_reacts.specs.Views.{Safe}
-use native.Mathlib.Omega.{arith}
 use Rattle.link_tables.proofs.Told.{zero-laid}
 use Rattle.sys_moves.proofs.Messages.{zero-number, zero-cmds}
 use borrow.Author.Needs.{needs}

@@ -40,9 +40,12 @@ emit-requires c κs =
     let s = c .before .before .before .before .before .before .before .before in
     let a = s .args in
     let os = orders (a .row .now) (a .source) (a .value) in
-    let x = c .before .before .before .before .send in
-    (acked-ready (a .kind) (a .me) (a .source) (a .number) (a .c .now) (a .used) (a .len) (a .timers) (a .next) (a .limit) (s .pre .0) os
-    (omega arith) (x .result) (x .last .0) (x .ensures), s .pre .1, s .pre .2)
+    let x = c .before .before .before .before .send in (
+      acked-ready (a .kind) (a .me) (a .source) (a .number) (a .c .now) (a .used) (a .len) (a .timers) (a .next) (a .limit) (s .pre .0) os
+          (omega arith) (x .result) (x .last .0) (x .ensures),
+      s .pre .1,
+      s .pre .2,
+    )
 
 same-length-2 : tie.Need-same-length-2
 same-length-2 c = search needs

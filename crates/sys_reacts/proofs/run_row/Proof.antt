@@ -35,8 +35,10 @@ returns c =
     let a = s .args in
     let os = orders (a .row .now) (a .source) (a .value) in
     let x = c .before .before .before .on-deliver in
-    by-message (a .kind) (a .me) (a .source) (a .c .now) (a .used) (a .len) (a .timers) (a .next) (a .limit) os _ _ (a .first) _ _ (c .before .before .before .before .before .before .first .given .1)
-    (tried-absent (a .kind) _ (a .c .now) (a .used) (a .len) (x .result) (x .last .0) (x .ensures) (a .me) _ _ (a .timers) (a .next) (a .limit)
+    let m = c .before .before .before .before .before .before .first .given in
+    let cmds = take (a .limit) (Send (a .source) (Ack (m .0 .1 .0)) ∷ asked (a .next) os) in
+    by-message (a .kind) (a .me) (a .source) (a .c .now) (a .used) (a .len) (a .timers) (a .next) (a .limit) os _ _ (a .first) (m .0 .0) (m .0 .1 .0) (m .1)
+    (tried-absent (a .kind) (m .0 .0) (a .c .now) (a .used) (a .len) (x .result) (x .last .0) (x .ensures) (a .me) (m .0 .1 .0) cmds (a .timers) (a .next) (a .limit)
     (sym (c .before .is-done .ensures) ∙ not-true _ (c .if1 .taken)))
 
 acked-row-requires : tie.Need-acked-row-requires
@@ -68,8 +70,11 @@ returns-3 c =
     let os = orders (a .row .now) (a .source) (a .value) in
     let x = c .before .before .before .before .before .before .on-deliver in
     let y = c .before .acked-row in
-    by-message (a .kind) (a .me) (a .source) (a .c .now) (a .used) (a .len) (a .timers) (a .next) (a .limit) os (y .result) (y .last .0) (a .first) _ _ (c .before .before .before .before .before .before .before .before .before .first .given .1)
-    (tried-message (a .kind) _ (a .c .now) (a .used) (a .len) (x .result) (x .last .0) (x .ensures) (a .me) _ _ (a .timers) (a .next) (a .limit)
+    let m = c .before .before .before .before .before .before .before .before .before .first .given in
+    let cmds = take (a .limit) (Send (a .source) (Ack (m .0 .1 .0)) ∷ asked (a .next) os) in
+    by-message (a .kind) (a .me) (a .source) (a .c .now) (a .used) (a .len) (a .timers) (a .next) (a .limit) os (y .result) (y .last .0) (a .first)
+    (m .0 .0) (m .0 .1 .0) (m .1)
+    (tried-message (a .kind) (m .0 .0) (a .c .now) (a .used) (a .len) (x .result) (x .last .0) (x .ensures) (a .me) (m .0 .1 .0) cmds (a .timers) (a .next) (a .limit)
     (sym (c .before .before .before .before .is-done .ensures) ∙ not-false _ (c .before .before .before .if1 .left)) (y .result) (y .last .0) (y .ensures))
 
 pub run-row-spec : {M : Type 1} → statement M
