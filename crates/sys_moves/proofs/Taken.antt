@@ -44,7 +44,7 @@ use Rattle.sys_reacts.specs.Views.{limitsOf, refusalOf, frontOf, lastAfter, fol
 use Rattle.sys_reacts.proofs.Laws.{goes-on, refuses}
 use Rattle.sys_reacts.proofs.Deliver.{deliver-is}
 use Rattle.sys_rows.specs.Rows.{RowsLaid, Settled, Noticed, Kept}
-use Rattle.sys_rows.proofs.Laws.{tail-at, as-stored, stored-laid}
+use Rattle.sys_rows.proofs.Laws.{as-stored, stored-laid}
 use Rattle.sys_rows.proofs.Sources.{noticed-word}
 use Rattle.sys_moves.specs.Views.{Rows, actorWith, running, takenIn, Decided, Fine, Acted}
 use Rattle.sys_moves.proofs.Laws.{places-are, outputs, refused-output, asked-few, take-all}
@@ -267,6 +267,3 @@ module _ (kind : Kind) (e : Envelope) (v : Number) (os : List InnerCommand) (s u
       stops = λ a. absurd (not-both (isDone (r .answer)) t a);
       same = λ a. absurd (not-both (isDone (r .answer)) t a);
     }
-
-pub timers-small : (w : List ℕ) (p : List (List ℕ)) → RowsLaid w p → getD w 6 0 < 4294967296
-timers-small w p laid = let z = tail-at w 2 in let y = laid .tail .timers in omega arith

@@ -3,7 +3,8 @@ use borrow.Author.Tests.{not-true, not-false}
 use Rattle.link_tables.specs.Rows.{orders}
 use Rattle.link_tables.proofs.Told.{row-four}
 use Rattle.sys_moves.specs.Views.{Rows, rowsOf}
-use Rattle.sys_moves.proofs.Taken.{enough, taken-refused, taken-full, taken-done, timers-small}
+use Rattle.sys_rows.proofs.Laws.{timers-small}
+use Rattle.sys_moves.proofs.Taken.{enough, taken-refused, taken-full, taken-done}
 use borrow.Author.Needs.{needs}
 use Rattle.sys_moves.proofs.on_message.Statement.{statement}
 use Rattle.sys_moves.proofs.on_message.Tie as tie
