@@ -17,25 +17,28 @@ refusal-of-requires c κs = let s = c .before .before .before in (s .pre .1, s .
 is-done-requires : tie.Need-is-done-requires
 is-done-requires c κs = search needs
 
+-- In what follows d is the place after the test of 6 and 7, and b the one after the test of 8.
 returns : tie.Need-returns
 returns c =
-    let s = c .before .before .before .before .before .before in
+    let d = c in
+    let s = d .before .before .before .before .before .before in
     let a = s .args in
     let os = orders (a .row .now) (a .source) (a .value) in
     let x : Rows = rowsOf (a .c .now) (a .live .now) (a .pend .now) (a .kept .now) (a .stored .now) in
-    let why = c .before .before .refusal-of in
+    let why = d .before .before .refusal-of in
     acted-refused (a .me) (a .kind) os (a .timers) (a .state) (a .used) (a .len) x (s .pre .0) (why .result) (why .ensures (a .source) (a .value))
-    (sym (c .before .is-done .ensures) ∙ not-true _ (c .if1 .taken))
+    (sym (d .before .is-done .ensures) ∙ not-true _ (d .if1 .taken))
 
 react-row-requires : tie.Need-react-row-requires
 react-row-requires c κs =
-    let s = c .before .before .before .before .before .before .before in
+    let d = c .before in
+    let s = d .before .before .before .before .before .before in
     let a = s .args in
     let os = orders (a .row .now) (a .source) (a .value) in
     let x : Rows = rowsOf (a .c .now) (a .live .now) (a .pend .now) (a .kept .now) (a .stored .now) in
-    let why = c .before .before .before .refusal-of in
-    let g = enough (a .me) (a .kind) os (a .timers) (a .state) (a .used) (a .len) x (s .pre .0) (why .result)
-    (why .ensures (a .source) (a .value)) (sym (c .before .before .is-done .ensures) ∙ not-false _ (c .before .if1 .left)) in
+    let why = d .before .before .refusal-of in
+    let g = enough (a .me) (a .kind) os (a .timers) (a .state) (a .used) (a .len) x (s .pre .0) (why .result) (why .ensures (a .source) (a .value))
+    (sym (d .before .is-done .ensures) ∙ not-false _ (d .if1 .left)) in
     (s .pre .0 .net, s .pre .1, g .0, s .pre .0 .room)
 
 is-done-requires-2 : tie.Need-is-done-requires-2
@@ -43,67 +46,82 @@ is-done-requires-2 c κs = search needs
 
 returns-2 : tie.Need-returns-2
 returns-2 c =
-    let s = c .before .before .before .before .before .before .before .before .before .before in
+    let b = c in
+    let d = b .before .before .before .before in
+    let s = d .before .before .before .before .before .before in
     let a = s .args in
     let os = orders (a .row .now) (a .source) (a .value) in
     let x : Rows = rowsOf (a .c .now) (a .live .now) (a .pend .now) (a .kept .now) (a .stored .now) in
-    let why = c .before .before .before .before .before .before .refusal-of in
-    let g = enough (a .me) (a .kind) os (a .timers) (a .state) (a .used) (a .len) x (s .pre .0) (why .result)
-    (why .ensures (a .source) (a .value)) (sym (c .before .before .before .before .before .is-done .ensures) ∙ not-false _ (c .before .before .before .before .if1 .left)) in
-    let y = c .before .before .react-row in
-    acted-full (a .me) (a .kind) os (a .timers) (a .state) (a .used) (a .len) x (s .pre .0) (g .0) (g .1) (row-four (a .row .now) (a .source) (a .value) (s .pre .1))
-    (y .result) (y .last .0) (a .source) (y .ensures) (sym (c .before .is-done2 .ensures) ∙ not-true _ (c .if2 .taken))
+    let why = d .before .before .refusal-of in
+    let g = enough (a .me) (a .kind) os (a .timers) (a .state) (a .used) (a .len) x (s .pre .0) (why .result) (why .ensures (a .source) (a .value))
+    (sym (d .before .is-done .ensures) ∙ not-false _ (d .if1 .left)) in
+    let y = b .before .before .react-row in
+    acted-full (a .me) (a .kind) os (a .timers) (a .state) (a .used) (a .len) x (s .pre .0) (g .0) (g .1)
+    (row-four (a .row .now) (a .source) (a .value) (s .pre .1)) (y .result) (y .last .0) (a .source) (y .ensures)
+    (sym (b .before .is-done2 .ensures) ∙ not-true _ (b .if2 .taken))
 
 settle-requires : tie.Need-settle-requires
 settle-requires c κs =
-    let s = c .before .before .before .before .before .before .before .before .before .before .before .before in
+    let b = c .before .before in
+    let d = b .before .before .before .before in
+    let s = d .before .before .before .before .before .before in
     let a = s .args in
     let os = orders (a .row .now) (a .source) (a .value) in
     let x : Rows = rowsOf (a .c .now) (a .live .now) (a .pend .now) (a .kept .now) (a .stored .now) in
-    let why = c .before .before .before .before .before .before .before .before .refusal-of in
-    let g = enough (a .me) (a .kind) os (a .timers) (a .state) (a .used) (a .len) x (s .pre .0) (why .result)
-    (why .ensures (a .source) (a .value)) (sym (c .before .before .before .before .before .before .before .is-done .ensures) ∙ not-false _ (c .before .before .before .before .before .before .if1 .left)) in
+    let why = d .before .before .refusal-of in
+    let g = enough (a .me) (a .kind) os (a .timers) (a .state) (a .used) (a .len) x (s .pre .0) (why .result) (why .ensures (a .source) (a .value))
+    (sym (d .before .is-done .ensures) ∙ not-false _ (d .if1 .left)) in
     (s .pre .1, s .pre .0 .live, s .pre .2, g .1, g .0)
 
 shared-slice-read-if3 : tie.Need-shared-slice-read-if3
 shared-slice-read-if3 c =
-    let z = c .before .before .before .before .before .before .before .before .before .before .before .before .before .before .pre .1 .room in
+    let d = c .before .before .before .before .before .before .before .before in
+    let z = d .before .before .before .before .before .before .pre .1 .room in
     search needs
 
 store-requires : tie.Need-store-requires
 store-requires c κs =
-    let s = c .before .before .before .before .before .before .before .before .before .before .before .before .before .before .before .before .before .before .before in
+    let d = c .before .before .before .before .before .before .before .before .before .before .before .before .before in
+    let s = d .before .before .before .before .before .before in
     (c .before .before .before .before .before .before .settle .ensures .laid, s .pre .0 .kept .places)
 
 returns-3 : tie.Need-returns-3
 returns-3 c =
-    let s = c .before .before .before .before .before .before .before .before .before .before .before .before .before .before .before .before .before .before .before .before in
+    let b = c .before .before .before .before .before .before .before .before .before .before in
+    let d = b .before .before .before .before in
+    let s = d .before .before .before .before .before .before in
     let a = s .args in
     let os = orders (a .row .now) (a .source) (a .value) in
     let x : Rows = rowsOf (a .c .now) (a .live .now) (a .pend .now) (a .kept .now) (a .stored .now) in
-    let why = c .before .before .before .before .before .before .before .before .before .before .before .before .before .before .before .before .refusal-of in
-    let g = enough (a .me) (a .kind) os (a .timers) (a .state) (a .used) (a .len) x (s .pre .0) (why .result)
-    (why .ensures (a .source) (a .value)) (sym (c .before .before .before .before .before .before .before .before .before .before .before .before .before .before .before .is-done .ensures) ∙ not-false _ (c .before .before .before .before .before .before .before .before .before .before .before .before .before .before .if1 .left)) in
-    let y = c .before .before .before .before .before .before .before .before .before .before .before .before .react-row in
+    let why = d .before .before .refusal-of in
+    let g = enough (a .me) (a .kind) os (a .timers) (a .state) (a .used) (a .len) x (s .pre .0) (why .result) (why .ensures (a .source) (a .value))
+    (sym (d .before .is-done .ensures) ∙ not-false _ (d .if1 .left)) in
     let z = c .before .before .before .before .before .before .before .settle in
-    acted-stored (a .me) (a .kind) os (a .timers) (a .state) (a .used) (a .len) x (s .pre .0) (g .0) (g .1) (row-four (a .row .now) (a .source) (a .value) (s .pre .1))
-    (y .result) (y .last .0) (a .source) (y .ensures) (sym (c .before .before .before .before .before .before .before .before .before .before .before .is-done2 .ensures) ∙ not-false _ (c .before .before .before .before .before .before .before .before .before .before .if2 .left))
-    (z .last .0) (z .last .1 .0) (z .ensures) (sym (s .pre .1 .durable (a .source) (a .value)) ∙ eq-eqb _ _ (c .before .before .before .before .before .if3 .taken))
-    (c .store .last .1 .1 .0) (c .store .last .1 .1 .1 .0) (c .store .ensures)
+    let k = c .store in
+    let y = b .before .before .react-row in
+    acted-stored (a .me) (a .kind) os (a .timers) (a .state) (a .used) (a .len) x (s .pre .0) (g .0) (g .1)
+    (row-four (a .row .now) (a .source) (a .value) (s .pre .1)) (y .result) (y .last .0) (a .source) (y .ensures)
+    (sym (b .before .is-done2 .ensures) ∙ not-false _ (b .if2 .left))
+    (z .last .0) (z .last .1 .0) (z .ensures)
+    (sym (s .pre .1 .durable (a .source) (a .value)) ∙ eq-eqb _ _ (c .before .before .before .before .before .if3 .taken))
+    (k .last .1 .1 .0) (k .last .1 .1 .1 .0) (k .ensures)
 
 returns-4 : tie.Need-returns-4
 returns-4 c =
-    let s = c .before .before .before .before .before .before .before .before .before .before .before .before .before .before .before in
+    let b = c .before .before .before .before .before in
+    let d = b .before .before .before .before in
+    let s = d .before .before .before .before .before .before in
     let a = s .args in
     let os = orders (a .row .now) (a .source) (a .value) in
     let x : Rows = rowsOf (a .c .now) (a .live .now) (a .pend .now) (a .kept .now) (a .stored .now) in
-    let why = c .before .before .before .before .before .before .before .before .before .before .before .refusal-of in
-    let g = enough (a .me) (a .kind) os (a .timers) (a .state) (a .used) (a .len) x (s .pre .0) (why .result)
-    (why .ensures (a .source) (a .value)) (sym (c .before .before .before .before .before .before .before .before .before .before .is-done .ensures) ∙ not-false _ (c .before .before .before .before .before .before .before .before .before .if1 .left)) in
-    let y = c .before .before .before .before .before .before .before .react-row in
+    let why = d .before .before .refusal-of in
+    let g = enough (a .me) (a .kind) os (a .timers) (a .state) (a .used) (a .len) x (s .pre .0) (why .result) (why .ensures (a .source) (a .value))
+    (sym (d .before .is-done .ensures) ∙ not-false _ (d .if1 .left)) in
     let z = c .before .before .settle in
-    acted-plain (a .me) (a .kind) os (a .timers) (a .state) (a .used) (a .len) x (s .pre .0) (g .0) (g .1) (row-four (a .row .now) (a .source) (a .value) (s .pre .1))
-    (y .result) (y .last .0) (a .source) (y .ensures) (sym (c .before .before .before .before .before .before .is-done2 .ensures) ∙ not-false _ (c .before .before .before .before .before .if2 .left))
+    let y = b .before .before .react-row in
+    acted-plain (a .me) (a .kind) os (a .timers) (a .state) (a .used) (a .len) x (s .pre .0) (g .0) (g .1)
+    (row-four (a .row .now) (a .source) (a .value) (s .pre .1)) (y .result) (y .last .0) (a .source) (y .ensures)
+    (sym (b .before .is-done2 .ensures) ∙ not-false _ (b .if2 .left))
     (z .last .0) (z .last .1 .0) (z .ensures) (sym (s .pre .1 .durable (a .source) (a .value)) ∙ ne-eqb _ _ (c .if3 .left))
 
 pub by-rule-spec : {M : Type 1} → statement M

@@ -52,14 +52,15 @@ same-length-2 c = search needs
 
 returns-3 : tie.Need-returns-3
 returns-3 c =
-    let s = c .before .before .before .before .before .before .before .before .before .before in
+    let d = c .before .before .before in
+    let s = d .before .before .before .before .before .before .before in
     let a = s .args in
     let os = orders (a .row .now) (a .source) (a .value) in
-    let x = c .before .before .before .before .before .before .send in
+    let x = d .before .before .before .send in
     let y = c .before .emit in
     ran-acked (a .kind) (a .me) (a .source) (a .number) (a .c .now) (a .used) (a .len) (a .timers) (a .next) (a .limit) (s .pre .0) os
-    (omega (arith, c .before .before .before .before .before .before .before .before .if1 .left)) (x .result) (x .last .0) (x .ensures) (sym (c .before .before .before .before .is-done .ensures) ∙ not-false _ (c .before .before .before .if2 .left))
-    (y .result) (y .last .0) (y .ensures)
+    (omega (arith, d .before .before .before .before .before .if1 .left)) (x .result) (x .last .0) (x .ensures)
+    (sym (d .before .is-done .ensures) ∙ not-false _ (d .if2 .left)) (y .result) (y .last .0) (y .ensures)
 
 pub acked-row-spec : {M : Type 1} → statement M
 acked-row-spec =

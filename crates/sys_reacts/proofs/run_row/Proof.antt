@@ -38,8 +38,8 @@ returns c =
     let m = c .before .before .before .before .before .before .first .given in
     let cmds = take (a .limit) (Send (a .source) (Ack (m .0 .1 .0)) ∷ asked (a .next) os) in
     by-message (a .kind) (a .me) (a .source) (a .c .now) (a .used) (a .len) (a .timers) (a .next) (a .limit) os _ _ (a .first) (m .0 .0) (m .0 .1 .0) (m .1)
-    (tried-absent (a .kind) (m .0 .0) (a .c .now) (a .used) (a .len) (x .result) (x .last .0) (x .ensures) (a .me) (m .0 .1 .0) cmds (a .timers) (a .next) (a .limit)
-    (sym (c .before .is-done .ensures) ∙ not-true _ (c .if1 .taken)))
+    (tried-absent (a .kind) (m .0 .0) (a .c .now) (a .used) (a .len) (x .result) (x .last .0) (x .ensures) (a .me) (m .0 .1 .0) cmds
+    (a .timers) (a .next) (a .limit) (sym (c .before .is-done .ensures) ∙ not-true _ (c .if1 .taken)))
 
 acked-row-requires : tie.Need-acked-row-requires
 acked-row-requires c κs =
@@ -57,7 +57,8 @@ returns-2 c =
     let a = s .args in
     let os = orders (a .row .now) (a .source) (a .value) in
     let x = c .before .emit in
-    by-nothing (a .kind) (a .me) (a .source) (a .c .now) (a .used) (a .len) (a .timers) (a .next) (a .limit) os (x .result) (x .last .0) (a .first) (c .before .before .before .enum-told .given .1)
+    by-nothing (a .kind) (a .me) (a .source) (a .c .now) (a .used) (a .len) (a .timers) (a .next) (a .limit) os (x .result) (x .last .0) (a .first)
+    (c .before .before .before .enum-told .given .1)
     (tried-plain (a .kind) (a .me) (take (a .limit) (asked (a .next) os)) (a .c .now) (a .used) (a .len) (a .timers) (x .result) (x .last .0) (x .ensures))
 
 same-length-3 : tie.Need-same-length-3
@@ -74,8 +75,9 @@ returns-3 c =
     let cmds = take (a .limit) (Send (a .source) (Ack (m .0 .1 .0)) ∷ asked (a .next) os) in
     by-message (a .kind) (a .me) (a .source) (a .c .now) (a .used) (a .len) (a .timers) (a .next) (a .limit) os (y .result) (y .last .0) (a .first)
     (m .0 .0) (m .0 .1 .0) (m .1)
-    (tried-message (a .kind) (m .0 .0) (a .c .now) (a .used) (a .len) (x .result) (x .last .0) (x .ensures) (a .me) (m .0 .1 .0) cmds (a .timers) (a .next) (a .limit)
-    (sym (c .before .before .before .before .is-done .ensures) ∙ not-false _ (c .before .before .before .if1 .left)) (y .result) (y .last .0) (y .ensures))
+    (tried-message (a .kind) (m .0 .0) (a .c .now) (a .used) (a .len) (x .result) (x .last .0) (x .ensures) (a .me) (m .0 .1 .0) cmds
+    (a .timers) (a .next) (a .limit) (sym (c .before .before .before .before .is-done .ensures) ∙ not-false _ (c .before .before .before .if1 .left))
+    (y .result) (y .last .0) (y .ensures))
 
 pub run-row-spec : {M : Type 1} → statement M
 run-row-spec =
