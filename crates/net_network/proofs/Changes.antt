@@ -27,8 +27,10 @@ use Rattle.net_rows.specs.Views.{netOf, roomOf, Changed}
 use Rattle.net_rows.specs.Views as rows
 use Rattle.net_rows.proofs.Ready as kept
 use Rattle.net_network.specs.declared.Network.{Network}
+use Rattle.net_network.specs.declared.Change.{Change}
+use Rattle.net_network.specs.declared.Change.the-variants.{Send, Drop, Deliver}
 use Rattle.net_network.specs.Views.{zeroEntry, entryList, netView, networkOf, NetLaid, NetReady, back, sentOf}
-use Rattle.net_network.specs.Parts.{readBack, lastAfter}
+use Rattle.net_network.specs.Parts.{readBack, outcomeOf, lastAfter, lastOf}
 
 module _ (n : Network) (laid : NetLaid n) where
   pub used-is : length (entryList n) ≡ n .used
@@ -151,24 +153,31 @@ module _
   before : rows.NetReady (n .kind) cs (n .used) count
   before = cells-ready n ready cs out count sum
 
-  pub send-back : (e : Envelope) → Made (send (roomOf cs) e here) → LaidBack (n .last) (send (base .room) e (netView n))
+  send-back : (e : Envelope) → Made (send (roomOf cs) e here) → LaidBack (n .last) (send (base .room) e (netView n))
   unfolding send sending
   send-back e c = (
     readable-by c (unfold send sending in kept.send-ready (n .kind) (n .last) cs (n .used) count before s cs' e c),
     guarded-back _ 8 _ (n .last) refl refl (λ _. refl) (as-struct (λ r m. send r e m) c),
   )
 
-  pub drop-back : (e : Envelope) → Made (onDrop e here) → LaidBack (n .last) (onDrop e (netView n))
+  drop-back : (e : Envelope) → Made (onDrop e here) → LaidBack (n .last) (onDrop e (netView n))
   unfolding onDrop dropping
   drop-back e c = (
     readable-by c (unfold onDrop dropping in kept.drop-ready (n .kind) (n .last) cs (n .used) count before s cs' e c),
     guarded-back _ 3 _ (n .last) refl refl (λ _. refl) (as-struct (λ r m. onDrop e m) c),
   )
 
-  pub deliver-back : (e : Envelope) → Made (onDeliver e here) → LaidBack (lastAfter (n .kind) e (n .last)) (onDeliver e (netView n))
+  deliver-back : (e : Envelope) → Made (onDeliver e here) → LaidBack (lastAfter (n .kind) e (n .last)) (onDeliver e (netView n))
   unfolding onDeliver
   deliver-back e c = (
     readable-by c (unfold onDeliver in kept.deliver-ready (n .kind) (n .last) cs (n .used) count before s cs' e c),
     guarded-back _ 3 (delivering e (netView n)) _ (delivering-kind e (netView n)) (delivering-last e (netView n))
         (refused-last (n .kind) e (n .last) (present e (netView n))) (as-struct (λ r m. onDeliver e m) c),
   )
+
+  pub change-back
+      : (what : Change) (e : Envelope) → Made (outcomeOf what (roomOf cs) e here)
+      → LaidBack (lastOf what (n .kind) e (n .last)) (outcomeOf what (base .room) e (netView n))
+  change-back Send e c = send-back e c
+  change-back Drop e c = drop-back e c
+  change-back Deliver e c = deliver-back e c

@@ -1,4 +1,4 @@
--- What cells are read back as, and the last message after a Deliver.
+-- What cells are read back as, what a change comes to, and the last message that it leaves.
 -- Assumes nothing.
 use Prim.Native.Nat.{ℕ}
 use mathlib.Core.List.{List}
@@ -9,9 +9,13 @@ use Rattle.types.specs.declared.Kind.the-variants.{Ordered, UnorderedDuplicatin
 use Rattle.types.specs.declared.LastMessage.{LastMessage}
 use Rattle.types.specs.declared.LastMessage.the-variants.{Delivered}
 use Rattle.types.specs.Capacities.{mostEntries}
+use Rattle.rules.specs.Outcome.{Outcome, Room}
+use Rattle.rules.specs.Network.{Net, send, onDrop, onDeliver}
 use Rattle.net_cells.specs.Cells.{zeroEntry}
 use Rattle.net_rows.specs.Views as rows
 use Rattle.net_network.specs.declared.Network.{Network}
+use Rattle.net_network.specs.declared.Change.{Change}
+use Rattle.net_network.specs.declared.Change.the-variants.{Send, Drop, Deliver}
 
 -- The network that the used cells are.
 abbrev pub readBack : Kind → List (List ℕ) → ℕ → LastMessage → Network
@@ -22,3 +26,14 @@ abbrev pub lastAfter : Kind → Envelope → LastMessage → LastMessage
 lastAfter Ordered e last = last
 lastAfter UnorderedDuplicating e last = Delivered e
 lastAfter UnorderedNonDuplicating e last = last
+
+-- What the rules make of a network by a change, and the last message after it.
+abbrev pub outcomeOf : Change → Room → Envelope → Net → Outcome Net
+outcomeOf Send c e m = send c e m
+outcomeOf Drop c e m = onDrop e m
+outcomeOf Deliver c e m = onDeliver e m
+
+abbrev pub lastOf : Change → Kind → Envelope → LastMessage → LastMessage
+lastOf Send k e last = last
+lastOf Drop k e last = last
+lastOf Deliver k e last = lastAfter k e last

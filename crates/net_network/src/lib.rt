@@ -17,8 +17,10 @@ ghost use Rattle.types.specs.Capacities.{mostEntries, mostCopies};
 ghost use Rattle.rules.specs.Outcome.{base};
 ghost use Rattle.rules.specs.Network.{send, onDeliver, onDrop, len};
 ghost use Rattle.net_layout.specs.Layout.{Readable};
-ghost use Rattle.net_network.specs.Views.{entryList, netView, networkOf, NetReady, back, sentOf};
-ghost use Rattle.net_network.specs.Parts.{readBack, lastAfter};
+ghost use Rattle.net_rows.specs.Views.{roomOf, Makes};
+ghost use Rattle.net_rows.specs.Views as rows;
+ghost use Rattle.net_network.specs.Views.{entryList, netView, networkOf, NetReady, sentOf};
+ghost use Rattle.net_network.specs.Parts.{readBack, outcomeOf, lastAfter, lastOf};
 
 // Places from the used count on hold the zero entry.
 pub struct Network {
@@ -84,48 +86,6 @@ pub fn read_back(kind: Kind, c: &[[u64; 4]], used: usize, last: LastMessage) -> 
     }
 }
 
-// An answer with the network that the used cells are. After a refusal they are those of the network that came.
-fn laid_back(answer: Answer, kind: Kind, c: &[[u64; 4]], used: usize, last: LastMessage) -> Sent
-    requires { ⌜ Readable (now c) used ⌝ }
-    ensures { λ r. ⌜ r ≡ back answer (readBack kind (now (c .entry)) used last) ⌝ }
-{
-    let n = read_back(kind, c, used, last);
-    Sent {
-        answer: answer,
-        network: n,
-    }
-}
-
-pub fn send(n: Network, e: Envelope) -> Sent
-    requires { ⌜ NetReady n ⌝ }
-    ensures { λ r. ⌜ r ≡ sentOf n (send (base .room) e (netView n)) ⌝ }
-{
-    let kind = n.kind;
-    let es = n.entries;
-    let used = n.used;
-    let last = n.last;
-    let count = len(n);
-    let mut cells = cells_of(es, used);
-    let s = net_rows::send(&mut cells, kind, used, count, e);
-    let answer = s.answer;
-    laid_back(answer, kind, &cells, s.used, last)
-}
-
-pub fn on_drop(n: Network, e: Envelope) -> Sent
-    requires { ⌜ NetReady n ⌝ }
-    ensures { λ r. ⌜ r ≡ sentOf n (onDrop e (netView n)) ⌝ }
-{
-    let kind = n.kind;
-    let es = n.entries;
-    let used = n.used;
-    let kept = n.last;
-    let count = len(n);
-    let mut cells = cells_of(es, used);
-    let s = net_rows::on_drop(&mut cells, kind, used, count, e);
-    let answer = s.answer;
-    laid_back(answer, kind, &cells, s.used, kept)
-}
-
 // The last message after a Deliver: on the duplicating kind, where none is refused, it is this one.
 pub fn last_after(kind: Kind, e: Envelope, last: LastMessage) -> LastMessage
     ensures { λ r. ⌜ r ≡ lastAfter kind e last ⌝ }
@@ -137,18 +97,70 @@ pub fn last_after(kind: Kind, e: Envelope, last: LastMessage) -> LastMessage
     }
 }
 
+// ---- the changes
+enum Change {
+    Send,
+    Drop,
+    Deliver,
+}
+
+// A change of the cells.
+fn change_cells(
+    c: &mut [[u64; 4]],
+    what: Change,
+    kind: Kind,
+    used: usize,
+    count: u64,
+    e: Envelope,
+) -> net_rows::Sent
+    requires { ⌜ rows.NetReady kind (now c) used count ⌝ }
+    ensures { λ r. ⌜ Makes (outcomeOf what (roomOf (now (c .entry))) e) kind (now (c .entry)) used count r (now (c .exit)) ⌝ }
+{
+    match what {
+        Change::Send => net_rows::send(c, kind, used, count, e),
+        Change::Drop => net_rows::on_drop(c, kind, used, count, e),
+        Change::Deliver => net_rows::on_deliver(c, kind, used, count, e),
+    }
+}
+
+// Laid out, changed in place, laid back with the last message that the change leaves. After a refusal the cells are those that were.
+fn made(n: Network, what: Change, e: Envelope, last: LastMessage) -> Sent
+    requires { ⌜ NetReady n × (last ≡ lastOf what (n .kind) e (n .last)) ⌝ }
+    ensures { λ r. ⌜ r ≡ sentOf n (outcomeOf what (base .room) e (netView n)) ⌝ }
+{
+    let kind = n.kind;
+    let es = n.entries;
+    let used = n.used;
+    let count = len(n);
+    let mut cells = cells_of(es, used);
+    let s = change_cells(&mut cells, what, kind, used, count, e);
+    let answer = s.answer;
+    let network = read_back(kind, &cells, s.used, last);
+    Sent { answer, network }
+}
+
+pub fn send(n: Network, e: Envelope) -> Sent
+    requires { ⌜ NetReady n ⌝ }
+    ensures { λ r. ⌜ r ≡ sentOf n (send (base .room) e (netView n)) ⌝ }
+{
+    let last = n.last;
+    made(n, Change::Send, e, last)
+}
+
+pub fn on_drop(n: Network, e: Envelope) -> Sent
+    requires { ⌜ NetReady n ⌝ }
+    ensures { λ r. ⌜ r ≡ sentOf n (onDrop e (netView n)) ⌝ }
+{
+    let kept = n.last;
+    made(n, Change::Drop, e, kept)
+}
+
 pub fn on_deliver(n: Network, e: Envelope) -> Sent
     requires { ⌜ NetReady n ⌝ }
     ensures { λ r. ⌜ r ≡ sentOf n (onDeliver e (netView n)) ⌝ }
 {
     let kind = n.kind;
-    let es = n.entries;
-    let used = n.used;
     let before = n.last;
     let last = last_after(kind, e, before);
-    let count = len(n);
-    let mut cells = cells_of(es, used);
-    let s = net_rows::on_deliver(&mut cells, kind, used, count, e);
-    let answer = s.answer;
-    laid_back(answer, kind, &cells, s.used, last)
+    made(n, Change::Deliver, e, last)
 }
