@@ -3,7 +3,7 @@
 use mathlib.Core.Path.{_≡_, refl}
 use Rattle.layout.specs.Read.{Reading, read, badAt}
 use Rattle.rules.specs.Script.{Script}
-use Rattle.script_records.proofs.Says.{Both, both}
+use Rattle.script_places.proofs.Says.{Both, both}
 use Rattle.script_check.specs.declared.Layout.{Layout}
 use Rattle.script_check.specs.Views.{layoutOf, checkSays, layoutSays}
 

@@ -5,7 +5,7 @@ use Rattle.answers.specs.Answers.{answerNumber}
 use Rattle.answers.specs.declared.Answer.the-variants.{Done, Unreadable}
 use Rattle.layout.specs.Read.{Reading, read, badAt}
 use Rattle.rules.specs.Script.{Script}
-use Rattle.script_records.specs.Says.{Said, said}
+use Rattle.script_places.specs.Says.{Said, said}
 use Rattle.script_check.specs.declared.Layout.{Layout}
 use Rattle.script_check.specs.declared.Layout.the-variants.{Good, Bad}
 

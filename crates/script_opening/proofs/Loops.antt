@@ -8,7 +8,7 @@ use lib.ListN.{length, take, drop, set}
 use Rattle.lists.specs.Lists.{pad}
 use Rattle.lists.proofs.Places.{laid-length}
 use Rattle.layout.specs.Read.{read, badAt, Reader, repeat}
-use Rattle.script_records.proofs.Laws.{more-used, more-laid}
+use Rattle.script_rules.proofs.Laws.{more-used, more-laid}
 use Rattle.script_opening.proofs.Readings.{gathered, gathered-none, gathered-more, gathered-bad, gathered-all}
 
 -- After i turns the first i places hold what was read, the others z, and the rest is to be read from the next place on.

@@ -27,11 +27,12 @@ use Rattle.script_records.specs.declared.HeaderRead.{HeaderRead}
 use Rattle.script_records.specs.declared.HeaderRead.the-variants as header
 use Rattle.script_records.specs.declared.CountRead.{CountRead}
 use Rattle.script_records.specs.declared.CountRead.the-variants as count
-use Rattle.script_records.specs.declared.RuleRead.{RuleRead}
+use Rattle.script_rules.specs.declared.RuleRead.{RuleRead}
 use Rattle.script_opening.specs.declared.TableRead.{TableRead}
 use Rattle.script_records.specs.declared.EnvelopeRead.{EnvelopeRead}
 use Rattle.script_records.specs.declared.EnvelopeRead.the-variants as envelope
-use Rattle.script_records.specs.Views.{headerRead, countRead, ruleRead, envelopeRead}
+use Rattle.script_rules.specs.Views.{ruleRead}
+use Rattle.script_records.specs.Views.{headerRead, countRead, envelopeRead}
 use Rattle.script_opening.specs.Views.{tableRead}
 
 -- ---- one record: what is left is what stands from the next place on

@@ -13,8 +13,8 @@ use Rattle.layout.specs.Read.{Reading, read, badAt}
 use Rattle.rules.specs.Script.{Opening}
 use Rattle.link_inner.specs.declared.Table.{Table}
 use Rattle.link_inner.specs.Views.{rulesOf}
-use Rattle.script_records.specs.Says.{said, readingSays}
-use Rattle.script_records.proofs.Says.{Both, both}
+use Rattle.script_places.specs.Says.{said, readingSays}
+use Rattle.script_places.proofs.Says.{Both, both}
 use Rattle.link_inner.specs.Views.{zeroRule, tableAs, zeroTable}
 use Rattle.script_opening.specs.declared.TableRead.{TableRead}
 use Rattle.script_opening.specs.declared.TablesRead.{TablesRead}

@@ -7,7 +7,7 @@ use Rattle.types.specs.declared.Envelope.{Envelope}
 use Rattle.types.specs.declared.Rule.{Rule}
 use Rattle.rules.specs.Script.{Opening}
 use Rattle.link_inner.specs.Views.{rulesOf}
-use Rattle.script_records.specs.Says.{Said, said}
+use Rattle.script_places.specs.Says.{Said, said}
 use Rattle.script_opening.specs.declared.TableRead.{TableRead}
 use Rattle.script_opening.specs.declared.TablesRead.{TablesRead}
 use Rattle.script_opening.specs.declared.EnvelopesRead.{EnvelopesRead}

@@ -10,8 +10,8 @@ use script_records::format_of;
 use script_records::read_envelope;
 use script_records::read_envelope_count;
 use script_records::read_header;
-use script_records::read_rule;
 use script_records::read_rule_count;
+use script_rules::read_rule;
 use types::Envelope;
 use types::Format;
 use types::Id;
@@ -28,7 +28,7 @@ ghost use lib.ListN.{drop};
 ghost use Rattle.types.specs.Capacities.{mostActors, mostEntries, mostRules};
 ghost use Rattle.layout.specs.Read.{badAt, one, repeat};
 ghost use Rattle.rules.specs.Script.{versions, Fine, ruleForm, envelopeForm, tableFrom, envelopesFrom, listsFrom, openingFrom};
-ghost use Rattle.script_records.specs.Says.{readingSays};
+ghost use Rattle.script_places.specs.Says.{readingSays};
 ghost use Rattle.script_opening.specs.Views.{tableRead, tablesRead, zeroEnvelope, envelopesRead, openingRead};
 ghost use Rattle.script_opening.specs.Says.{tableSays, tablesSays, envelopesSays, openingSays};
 

@@ -1,27 +1,18 @@
 -- An answer that is the image of a reading has its number and its values: the number is a matter of the answer's case alone.
 -- Assumes nothing.
 use Prim.Native.Nat.{ℕ}
-use mathlib.Core.Path.{_≡_, refl, ap, _∙_}
-use Rattle.lists.specs.Lists.{choose}
+use mathlib.Core.Path.{_≡_, refl}
 use Rattle.layout.specs.Read.{Reading, read, badAt}
 use Rattle.types.specs.declared.Envelope.{Envelope}
-use Rattle.types.specs.declared.Rule.{Rule}
 use Rattle.rules.specs.Script.{Header, Item, end, item}
+use Rattle.script_places.proofs.Says.{Both, both}
 use Rattle.script_records.specs.declared.HeaderRead.{HeaderRead}
 use Rattle.script_records.specs.declared.CountRead.{CountRead}
-use Rattle.script_records.specs.declared.RuleRead.{RuleRead}
 use Rattle.script_records.specs.declared.EnvelopeRead.{EnvelopeRead}
 use Rattle.script_records.specs.declared.ActionRead.{ActionRead}
-use Rattle.script_records.specs.Views.{headerRead, countRead, ruleRead, envelopeRead, actionRead}
-use Rattle.script_records.specs.Says.{Said, readingSays, headerSays, countSays, ruleSays, envelopeSays, actionSays}
-
--- Any answer: `image` is the answer to what was found, `says` and `finds` the number and values of the two.
-module _ {X R A : Type 0} (image : X → R) (says : R → Said A) (finds : X → Said A) where
-  abbrev pub Both : X → R → Type 0
-  Both x r = (r ≡ image x) × (says r ≡ finds x)
-
-  pub both : (x : X) {r : R} → says (image x) ≡ finds x → r ≡ image x → Both x r
-  both x law e = (e, ap says e ∙ law)
+use Rattle.script_records.specs.Views.{headerRead, countRead, envelopeRead, actionRead}
+use Rattle.script_places.specs.Says.{readingSays}
+use Rattle.script_records.specs.Says.{headerSays, countSays, envelopeSays, actionSays}
 
 header-law : (m : Reading Header) → headerSays (headerRead m) ≡ readingSays m
 header-law (read h xs p) = refl
@@ -36,14 +27,6 @@ count-law (badAt p) = refl
 
 pub count-both : (m : Reading ℕ) {r : CountRead} → r ≡ countRead m → Both countRead countSays readingSays m r
 count-both m e = both countRead countSays readingSays m (count-law m) e
-
-rule-law : (m : Reading Rule) → ruleSays (ruleRead m) ≡ readingSays m
-unfolding choose
-rule-law (read r xs p) = refl
-rule-law (badAt p) = refl
-
-pub rule-both : (m : Reading Rule) {r : RuleRead} → r ≡ ruleRead m → Both ruleRead ruleSays readingSays m r
-rule-both m e = both ruleRead ruleSays readingSays m (rule-law m) e
 
 envelope-law : (m : Reading Envelope) → envelopeSays (envelopeRead m) ≡ readingSays m
 envelope-law (read e xs p) = refl

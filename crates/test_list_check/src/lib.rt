@@ -3,7 +3,7 @@
 use check::same;
 use replay_script::replay;
 use script_bits::field32;
-use script_records::from;
+use script_places::from;
 ghost use mathlib.Core.Path.{_≡_};
 ghost use Prim.Native.Nat.{_-_, _<_, _≤_};
 ghost use lib.ListN.{length, take, drop};

@@ -1,7 +1,7 @@
 -- Each test that fails makes all of them fail; the last one is left when the others passed.
 use mathlib.Core.Path.{sym, _∙_}
 use mathlib.Core.Bool.{and-true}
-use borrow.Author.Tests.{not-true, not-false, eq-eqb, ne-eqb, le-leb, lt-leb}
+use borrow.Author.Tests.{not-true, not-false, le-leb, lt-leb}
 use Rattle.lists.specs.Lists.{every}
 use Rattle.rules.specs.Script.{headerOk}
 use borrow.Author.Needs.{needs}

@@ -5,7 +5,8 @@ use lib.ListN.{drop}
 use Rattle.layout.specs.Read.{one}
 use Rattle.rules.specs.Script.{actionForm}
 use Rattle.script_records.specs.Views.{actionRead, actionEnd}
-use Rattle.script_records.proofs.Laws.{stand, tells-at, tells-not, tells-stuck, action-found, action-ended, action-stuck}
+use Rattle.script_places.proofs.Laws.{tells-at, tells-not, tells-stuck}
+use Rattle.script_records.proofs.Laws.{stand, action-found, action-ended, action-stuck}
 use Rattle.script_records.proofs.Says.{action-both}
 use borrow.Author.Needs.{needs}
 use Rattle.script_records.proofs.read_action.Statement.{statement}

@@ -1,8 +1,8 @@
 -- The count is its one field, and a record of so many bits.
-use native.Mathlib.Omega.{arith}
-use mathlib.Core.Path.{refl, sym, ap, _∙_}
+use mathlib.Core.Path.{refl, sym, _∙_}
 use Rattle.script_records.specs.Views.{countRead}
-use Rattle.script_records.proofs.Laws.{tells-at, tells-not, tells-stuck, countForm, count-at, no-count}
+use Rattle.script_places.proofs.Laws.{tells-at, tells-not, tells-stuck}
+use Rattle.script_records.proofs.Laws.{countForm, count-at, no-count}
 use borrow.Author.Needs.{needs}
 use Rattle.script_records.proofs.read_count.Statement.{statement}
 use Rattle.script_records.proofs.read_count.Tie as tie

@@ -5,7 +5,8 @@ use lib.ListN.{drop}
 use Rattle.layout.specs.Read.{one}
 use Rattle.rules.specs.Script.{envelopeForm}
 use Rattle.script_records.specs.Views.{envelopeRead, envelopeEnd}
-use Rattle.script_records.proofs.Laws.{stand, tells-at, tells-not, tells-stuck, envelope-found, envelope-stuck}
+use Rattle.script_places.proofs.Laws.{tells-at, tells-not, tells-stuck}
+use Rattle.script_records.proofs.Laws.{stand, envelope-found, envelope-stuck}
 use Rattle.script_records.proofs.Says.{envelope-both}
 use borrow.Author.Needs.{needs}
 use Rattle.script_records.proofs.read_envelope.Statement.{statement}

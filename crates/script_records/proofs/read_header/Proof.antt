@@ -5,7 +5,8 @@ use lib.ListN.{drop}
 use Rattle.layout.specs.Read.{one}
 use Rattle.rules.specs.Script.{versions, headerForm}
 use Rattle.script_records.specs.Views.{headerRead}
-use Rattle.script_records.proofs.Laws.{tells-at, tells-not, tells-stuck, header-at, no-header}
+use Rattle.script_places.proofs.Laws.{tells-at, tells-not, tells-stuck}
+use Rattle.script_records.proofs.Laws.{header-at, no-header}
 use Rattle.script_records.proofs.Says.{header-both}
 use borrow.Author.Needs.{needs}
 use Rattle.script_records.proofs.read_header.Statement.{statement}

@@ -1,5 +1,5 @@
 -- It is the reading at place 0, in the format of the version.
-use mathlib.Core.Path.{_≡_, sym, ap, subst, _∙_}
+use mathlib.Core.Path.{sym, ap, subst, _∙_}
 use Rattle.layout.specs.Read.{one}
 use Rattle.types.specs.declared.Format.{Format}
 use Rattle.rules.specs.Script.{versions, formatOf, Fine, actionForm}

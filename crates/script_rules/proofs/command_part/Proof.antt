@@ -1,11 +1,11 @@
 -- The kind picks the fields that follow it. They stand one behind another, and there is no fifth kind.
 use native.Mathlib.Omega.{arith}
-use mathlib.Core.Path.{refl, sym, ap, _∙_}
-use Rattle.script_records.specs.Views.{commandPart}
-use Rattle.script_records.proofs.Laws.{set-at, cancel-at, send-at, save-at, no-command}
+use mathlib.Core.Path.{refl, sym, ap}
+use Rattle.script_rules.specs.Views.{commandPart}
+use Rattle.script_rules.proofs.Laws.{set-at, cancel-at, send-at, save-at, no-command}
 use borrow.Author.Needs.{needs}
-use Rattle.script_records.proofs.command_part.Statement.{statement}
-use Rattle.script_records.proofs.command_part.Tie as tie
+use Rattle.script_rules.proofs.command_part.Statement.{statement}
+use Rattle.script_rules.proofs.command_part.Tie as tie
 
 field8-requires : tie.Need-field8-requires
 field8-requires c κs = search needs

@@ -3,14 +3,14 @@ use native.Mathlib.Omega.{arith}
 use Prim.Native.Nat.{ℕ}
 use mathlib.Core.List.{List}
 use mathlib.Core.Path.{_≡_, sym, ap, _∙_}
-use mathlib.Core.Bool.{Bool, true, false}
+use mathlib.Core.Bool.{Bool, true}
 use lib.ListN.{drop, length-drop}
 use Rattle.layout.specs.Form.{wholeOf}
 use Rattle.layout.proofs.Laws.{whole-fits}
-use Rattle.script_records.specs.Views.{endingOf}
+use Rattle.script_places.specs.Views.{endingOf}
 use borrow.Author.Needs.{needs}
-use Rattle.script_records.proofs.end_of.Statement.{statement}
-use Rattle.script_records.proofs.end_of.Tie as tie
+use Rattle.script_places.proofs.end_of.Statement.{statement}
+use Rattle.script_places.proofs.end_of.Tie as tie
 
 from-requires : tie.Need-from-requires
 from-requires c κs = search needs

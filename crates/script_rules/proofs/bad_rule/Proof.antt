@@ -1,7 +1,7 @@
 -- The rule that it holds is the zero rule.
 use borrow.Author.Needs.{needs}
-use Rattle.script_records.proofs.bad_rule.Statement.{statement}
-use Rattle.script_records.proofs.bad_rule.Tie as tie
+use Rattle.script_rules.proofs.bad_rule.Statement.{statement}
+use Rattle.script_rules.proofs.bad_rule.Tie as tie
 
 zero-rule-requires : tie.Need-zero-rule-requires
 zero-rule-requires c κs = search needs

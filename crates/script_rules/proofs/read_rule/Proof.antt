@@ -1,18 +1,16 @@
 -- The count stands behind the other fields and says how many commands follow. Too many, or one that is stuck, leave no rule.
-use native.Mathlib.Omega.{arith}
-use Prim.Native.Nat.{ℕ}
-use mathlib.Core.Path.{_≡_, refl, sym, ap, _∙_}
+use mathlib.Core.Path.{refl, sym, _∙_}
 use borrow.Author.Tests.{not-true, not-false}
 use lib.ListN.{drop}
 use Rattle.layout.specs.Read.{one}
-use Rattle.types.specs.declared.Rule.{Rule}
 use Rattle.rules.specs.Script.{ruleForm}
-use Rattle.script_records.specs.Views.{ruleRead}
-use Rattle.script_records.proofs.Laws.{tells-at, tells-not, tells-stuck, rule-at, rule-stuck, no-rule, commands-found, commands-stuck}
-use Rattle.script_records.proofs.Says.{rule-both}
+use Rattle.script_rules.specs.Views.{ruleRead}
+use Rattle.script_places.proofs.Laws.{tells-at, tells-not, tells-stuck}
+use Rattle.script_rules.proofs.Laws.{rule-at, rule-stuck, no-rule, commands-found, commands-stuck}
+use Rattle.script_rules.proofs.Says.{rule-both}
 use borrow.Author.Needs.{needs}
-use Rattle.script_records.proofs.read_rule.Statement.{statement}
-use Rattle.script_records.proofs.read_rule.Tie as tie
+use Rattle.script_rules.proofs.read_rule.Statement.{statement}
+use Rattle.script_rules.proofs.read_rule.Tie as tie
 
 from-requires : tie.Need-from-requires
 from-requires c κs = search needs

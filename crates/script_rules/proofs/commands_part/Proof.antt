@@ -15,12 +15,13 @@ use Rattle.types.specs.declared.Slot.{Slot}
 use Rattle.rules.specs.Inner.{zeroSlot, slotsOf}
 use Rattle.rules.specs.Script.{commandForm}
 use Rattle.types.specs.declared.Format.{Format}
-use Rattle.script_records.specs.declared.CommandsPart.{CommandsPart}
-use Rattle.script_records.specs.declared.CommandPart.the-variants as commands
-use Rattle.script_records.specs.Views.{commandEnd, commandPart, commandsPart}
-use Rattle.script_records.proofs.Laws.{then-at, then-stuck, times-stuck, command-found, command-stuck, slots-are, more-used, more-laid}
-use Rattle.script_records.proofs.commands_part.Statement.{statement}
-use Rattle.script_records.proofs.commands_part.Tie as tie
+use Rattle.script_rules.specs.declared.CommandsPart.{CommandsPart}
+use Rattle.script_rules.specs.declared.CommandPart.the-variants as commands
+use Rattle.script_rules.specs.Views.{commandEnd, commandPart, commandsPart}
+use Rattle.script_places.proofs.Laws.{then-at, then-stuck}
+use Rattle.script_rules.proofs.Laws.{times-stuck, command-found, command-stuck, slots-are, more-used, more-laid}
+use Rattle.script_rules.proofs.commands_part.Statement.{statement}
+use Rattle.script_rules.proofs.commands_part.Tie as tie
 
 abbrev told1 : Slot → RuleCommand
 told1 s = s .command

@@ -4,11 +4,11 @@ use mathlib.Core.Path.{sym, ap, _∙_}
 use mathlib.Core.Bool.{Bool}
 use lib.ListN.{length, drop, length-drop}
 use borrow.Author.Tests.{eq-eqb, ne-eqb}
-use Rattle.script_records.specs.Views.{endingOf}
-use Rattle.script_records.proofs.Laws.{whole-short, whole-by}
+use Rattle.script_places.specs.Views.{endingOf}
+use Rattle.script_places.proofs.Laws.{whole-short, whole-by}
 use borrow.Author.Needs.{needs}
-use Rattle.script_records.proofs.end_in.Statement.{statement}
-use Rattle.script_records.proofs.end_in.Tie as tie
+use Rattle.script_places.proofs.end_in.Statement.{statement}
+use Rattle.script_places.proofs.end_in.Tie as tie
 
 from-requires : tie.Need-from-requires
 from-requires c κs = search needs

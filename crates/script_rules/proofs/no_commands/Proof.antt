@@ -2,8 +2,8 @@
 use Rattle.lists.specs.Lists.{pad}
 use Rattle.rules.specs.Inner.{slotsOf}
 use borrow.Author.Needs.{needs}
-use Rattle.script_records.proofs.no_commands.Statement.{statement}
-use Rattle.script_records.proofs.no_commands.Tie as tie
+use Rattle.script_rules.proofs.no_commands.Statement.{statement}
+use Rattle.script_rules.proofs.no_commands.Tie as tie
 
 zero-slot-requires : tie.Need-zero-slot-requires
 zero-slot-requires c κs = search needs

@@ -1,9 +1,9 @@
 -- A part up to the end is what is left after the place; past the end nothing is left.
 use native.Mathlib.Omega.{arith}
-use Rattle.script_records.proofs.Laws.{tail, tail-past}
+use Rattle.script_places.proofs.Laws.{tail, tail-past}
 use borrow.Author.Needs.{needs}
-use Rattle.script_records.proofs.from.Statement.{statement}
-use Rattle.script_records.proofs.from.Tie as tie
+use Rattle.script_places.proofs.from.Statement.{statement}
+use Rattle.script_places.proofs.from.Tie as tie
 
 sub-result : tie.Need-sub-result
 sub-result c = search needs

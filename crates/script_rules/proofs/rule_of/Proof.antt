@@ -1,7 +1,7 @@
 -- Each field is read from its own bit on.
 use borrow.Author.Needs.{needs}
-use Rattle.script_records.proofs.rule_of.Statement.{statement}
-use Rattle.script_records.proofs.rule_of.Tie as tie
+use Rattle.script_rules.proofs.rule_of.Statement.{statement}
+use Rattle.script_rules.proofs.rule_of.Tie as tie
 
 field8-requires : tie.Need-field8-requires
 field8-requires c κs = search needs
