@@ -14,8 +14,10 @@ use Rattle.layout.specs.Bits.{fieldAt}
 use Rattle.layout.specs.Form.{Form, filled, refuse, field, Reached, reached, stuck, got, bad, follow, then, bytesFor, wholeOf, padded, recordOf}
 use Rattle.layout.specs.Read.{Reading, read, badAt, placed, one}
 use Rattle.layout.proofs.Laws.{onReached, follow-then, then-reached}
+use Rattle.script_places.specs.declared.Ending.{Ending}
 use Rattle.script_places.specs.declared.Ending.the-variants as ending
 use Rattle.script_places.specs.Views.{endingOf}
+use Rattle.script_places.proofs.Says.{Telling, Tells, tells}
 
 -- ---- a record at a place: its form reached a value after n bits, and its end is as `endingOf` says
 module _ {A : Type 0} (f : Form A) (xs : List ℕ) (p : ℕ) where
@@ -45,22 +47,26 @@ module _ {A : Type 0} (f : Form A) (xs : List ℕ) (p : ℕ) where
   unfolding one recordOf padded placed
   one-stuck h = ap (λ (g : Reached A). placed (padded xs g) xs p) h
 
--- ---- the answer at a place: `img` is the answer to a reading, xs what stands from the place on
-module _ {A R : Type 0} (img : Reading A → R) (f : Form A) (s : List ℕ) (at : ℕ) {xs : List ℕ} (l : xs ≡ drop at s) where
+-- ---- the answer at a place: xs is what stands from the place on
+module _ {A R : Type 0} (t : Telling A R) (f : Form A) (s : List ℕ) (at : ℕ) {xs : List ℕ} (l : xs ≡ drop at s) where
   there : {g : Reached A} → follow xs f 0 ≡ g → follow (drop at s) f 0 ≡ g
   there h = ap (λ (ys : List ℕ). follow ys f 0) (sym l) ∙ h
 
+  tells-by : {m : Reading A} {r : R} → one f (drop at s) at ≡ m → r ≡ t .image m → Tells t (one f (drop at s) at) r
+  tells-by h e = tells t (one f (drop at s) at) (e ∙ sym (ap (t .image) h))
+
   pub tells-at
-      : {a : A} {n q : ℕ} {r : R} → follow xs f 0 ≡ reached a n → ending.At q ≡ endingOf at (wholeOf (drop at s) n) n
-      → r ≡ img (read a (drop (bytesFor n) (drop at s)) q) → r ≡ img (one f (drop at s) at)
-  tells-at h e r = r ∙ sym (ap img (one-at f (drop at s) at (there h) e))
+      : {a : A} {n q : ℕ} {z : Ending} {r : R} → follow xs f 0 ≡ reached a n → z ≡ endingOf at (wholeOf (drop at s) n) n → z ≡ ending.At q
+      → r ≡ t .image (read a (drop (bytesFor n) (drop at s)) q) → Tells t (one f (drop at s) at) r
+  tells-at h w e r = tells-by (one-at f (drop at s) at (there h) (sym e ∙ w)) r
 
-  pub tells-not : {a : A} {n : ℕ} → follow xs f 0 ≡ reached a n → ending.Bad ≡ endingOf at (wholeOf (drop at s) n) n
-      → img (badAt at) ≡ img (one f (drop at s) at)
-  tells-not h e = sym (ap img (one-not f (drop at s) at (there h) e))
+  pub tells-not
+      : {a : A} {n : ℕ} {z : Ending} {r : R} → follow xs f 0 ≡ reached a n → z ≡ endingOf at (wholeOf (drop at s) n) n → z ≡ ending.Bad
+      → r ≡ t .image (badAt at) → Tells t (one f (drop at s) at) r
+  tells-not h w e r = tells-by (one-not f (drop at s) at (there h) (sym e ∙ w)) r
 
-  pub tells-stuck : follow xs f 0 ≡ stuck → img (badAt at) ≡ img (one f (drop at s) at)
-  tells-stuck h = sym (ap img (one-stuck f (drop at s) at (there h)))
+  pub tells-stuck : {r : R} → follow xs f 0 ≡ stuck → r ≡ t .image (badAt at) → Tells t (one f (drop at s) at) r
+  tells-stuck h r = tells-by (one-stuck f (drop at s) at (there h)) r
 
 -- a record is cut, or is whole if what pads it is 0
 module _ (xs : List ℕ) (n : ℕ) where

@@ -2,7 +2,7 @@
 -- Assumes nothing.
 use Prim.Native.Nat.{ℕ, _+_, _≤_, _<_}
 use native.Mathlib.Omega.{arith}
-use mathlib.Core.Path.{_≡_, refl, ap, _∙_}
+use mathlib.Core.Path.{_≡_, refl, sym, ap, _∙_}
 use mathlib.Core.List.{List, [], _∷_}
 use mathlib.Core.Bool.{Bool, true, false}
 use native.Mathlib.Decide.{ℕ-discrete}
@@ -16,7 +16,6 @@ use Rattle.layout.specs.Form.{recordOf}
 use Rattle.layout.specs.Read.{placed, one}
 use Rattle.layout.proofs.Laws.{onReached, follow-then, found, record-fits, follow-from, fed, follow-only, follow-not}
 use Rattle.script_bits.specs.Front.{Front}
-use Rattle.types.specs.declared.Action.{Action}
 use Rattle.types.specs.declared.Action.the-variants as action
 use Rattle.types.specs.declared.Envelope.{Envelope}
 use Rattle.types.specs.declared.Format.{Format}
@@ -25,6 +24,7 @@ use Rattle.types.specs.declared.Message.the-variants as message
 use Rattle.rules.specs.Script.{headerOk, headerForm, messageKinds, messageForm, envelopeForm, Item, end}
 use Rattle.rules.specs.Script.{item, actionKinds, actionForm, takeAction, sizeOf}
 use Rattle.script_places.proofs.Laws.{then-at, then-stuck, moved, fed-on}
+use Rattle.script_records.specs.declared.MessagePart.{MessagePart}
 use Rattle.script_records.specs.declared.MessagePart.the-variants as messages
 use Rattle.script_records.specs.declared.EnvelopePart.{EnvelopePart}
 use Rattle.script_records.specs.declared.EnvelopePart.the-variants as envelopes
@@ -200,45 +200,31 @@ module _ (xs : List ℕ) where
           kind-at p within ∙ ap (λ (j : ℕ). follow xs (getD (actionKinds f) j refuse) 3) e ∙ fed xs (getD (actionKinds f) 5 refuse) 3 (i ∷ []) (g, tt)
 
 -- ---- what the answer of a part says of its form
-pub message-found : {g : Reached Message} {m : Message} {n : ℕ} → messages.Found m n ≡ messagePart g → g ≡ reached m n
-message-found {g = reached k j} {m} {n} e =
-    let y : k ≡ m = cc in
-    let z : j ≡ n = cc in
-    rw (y, z)
-message-found {g = stuck} {m} {n} e = let z : _≡_ {A = ℕ} 0 1 = cc in absurd (omega arith)
+abbrev pub messageBack : MessagePart → Reached Message
+messageBack (messages.Found m n) = reached m n
+messageBack messages.Stuck = stuck
 
-pub message-stuck : {g : Reached Message} → messages.Stuck ≡ messagePart g → g ≡ stuck
-message-stuck {g = reached k j} e = let z : _≡_ {A = ℕ} 0 1 = cc in absurd (omega arith)
-message-stuck {g = stuck} e = refl
+pub message-back : {g : Reached Message} {x : MessagePart} → x ≡ messagePart g → g ≡ messageBack x
+message-back {g = reached m n} e = sym (ap messageBack e)
+message-back {g = stuck} e = sym (ap messageBack e)
 
-pub envelope-found : {g : Reached Envelope} {x : Envelope} {n : ℕ} → envelopes.Found x n ≡ envelopePart g → g ≡ reached x n
-envelope-found {g = reached k j} {x} {n} e =
-    let y : k ≡ x = cc in
-    let z : j ≡ n = cc in
-    rw (y, z)
-envelope-found {g = stuck} {x} {n} e = let z : _≡_ {A = ℕ} 0 1 = cc in absurd (omega arith)
+abbrev pub envelopeBack : EnvelopePart → Reached Envelope
+envelopeBack (envelopes.Found x n) = reached x n
+envelopeBack envelopes.Stuck = stuck
 
-pub envelope-stuck : {g : Reached Envelope} → envelopes.Stuck ≡ envelopePart g → g ≡ stuck
-envelope-stuck {g = reached k j} e = let z : _≡_ {A = ℕ} 0 1 = cc in absurd (omega arith)
-envelope-stuck {g = stuck} e = refl
+pub envelope-back : {g : Reached Envelope} {x : EnvelopePart} → x ≡ envelopePart g → g ≡ envelopeBack x
+envelope-back {g = reached y n} e = sym (ap envelopeBack e)
+envelope-back {g = stuck} e = sym (ap envelopeBack e)
 
-pub action-found : {g : Reached Item} {x : Action} {n : ℕ} → actions.Act x n ≡ actionPart g → g ≡ reached (item x) n
-action-found {g = reached (item k) j} {x} {n} e =
-    let y : k ≡ x = cc in
-    let z : j ≡ n = cc in
-    rw (y, z)
-action-found {g = reached end j} {x} {n} e = let z : _≡_ {A = ℕ} 0 1 = cc in absurd (omega arith)
-action-found {g = stuck} {x} {n} e = let z : _≡_ {A = ℕ} 0 1 = cc in absurd (omega arith)
+abbrev pub actionBack : ActionPart → Reached Item
+actionBack (actions.Act a n) = reached (item a) n
+actionBack (actions.End n) = reached end n
+actionBack actions.Stuck = stuck
 
-pub action-ended : {g : Reached Item} {n : ℕ} → actions.End n ≡ actionPart g → g ≡ reached end n
-action-ended {g = reached (item k) j} {n} e = let z : _≡_ {A = ℕ} 0 1 = cc in absurd (omega arith)
-action-ended {g = reached end j} {n} e = let z : j ≡ n = cc in ap (reached end) z
-action-ended {g = stuck} {n} e = let z : _≡_ {A = ℕ} 0 1 = cc in absurd (omega arith)
-
-pub action-stuck : {g : Reached Item} → actions.Stuck ≡ actionPart g → g ≡ stuck
-action-stuck {g = reached (item k) j} e = let z : _≡_ {A = ℕ} 0 1 = cc in absurd (omega arith)
-action-stuck {g = reached end j} e = let z : _≡_ {A = ℕ} 0 1 = cc in absurd (omega arith)
-action-stuck {g = stuck} e = refl
+pub action-back : {g : Reached Item} {x : ActionPart} → x ≡ actionPart g → g ≡ actionBack x
+action-back {g = reached (item a) n} e = sym (ap actionBack e)
+action-back {g = reached end n} e = sym (ap actionBack e)
+action-back {g = stuck} e = sym (ap actionBack e)
 
 -- the action ends where its envelope does
 with-ends : (b : Bool) (x : EnvelopePart) → actionEnd (withEnvelope b x) ≡ envelopeEnd x

@@ -23,6 +23,7 @@ use Rattle.types.specs.declared.Slot.{Slot}
 use Rattle.rules.specs.Inner.{zeroSlot, slotsOf}
 use Rattle.rules.specs.Script.{flag, commandKinds, commandForm, ruleForm}
 use Rattle.script_places.proofs.Laws.{then-stuck, moved, fed-on}
+use Rattle.script_rules.specs.declared.CommandPart.{CommandPart}
 use Rattle.script_rules.specs.declared.CommandPart.the-variants as commands
 use Rattle.script_rules.specs.declared.CommandsPart.{CommandsPart}
 use Rattle.script_rules.specs.Views.{commandsPart, ruleWith, commandPart}
@@ -144,16 +145,13 @@ module _ (xs : List ℕ) where
       no-rule h = rule-rest ∙ follow-not xs (then (times c (commandForm f)) (λ cs. filled (ruleWith xs (f .event) (slotsOf cs) c))) b (lt-leb _ _ h)
 
 -- ---- what the answer of a part says of its form
-pub command-found : {g : Reached RuleCommand} {x : RuleCommand} {n : ℕ} → commands.Found x n ≡ commandPart g → g ≡ reached x n
-command-found {g = reached k j} {x} {n} e =
-    let y : k ≡ x = cc in
-    let z : j ≡ n = cc in
-    rw (y, z)
-command-found {g = stuck} {x} {n} e = let z : _≡_ {A = ℕ} 0 1 = cc in absurd (omega arith)
+abbrev pub commandBack : CommandPart → Reached RuleCommand
+commandBack (commands.Found c n) = reached c n
+commandBack commands.Stuck = stuck
 
-pub command-stuck : {g : Reached RuleCommand} → commands.Stuck ≡ commandPart g → g ≡ stuck
-command-stuck {g = reached k j} e = let z : _≡_ {A = ℕ} 0 1 = cc in absurd (omega arith)
-command-stuck {g = stuck} e = refl
+pub command-back : {g : Reached RuleCommand} {x : CommandPart} → x ≡ commandPart g → g ≡ commandBack x
+command-back {g = reached c n} e = sym (ap commandBack e)
+command-back {g = stuck} e = sym (ap commandBack e)
 
 pub commands-found : {g : Reached (List Slot)} {r : CommandsPart} → r ≡ commandsPart g → r .found ≡ true → g ≡ reached (r .commands) (r .end)
 commands-found {g = reached cs n} e h = sym (λ i. reached (e i .commands) (e i .end))

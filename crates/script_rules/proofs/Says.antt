@@ -5,14 +5,14 @@ use Rattle.lists.specs.Lists.{choose}
 use Rattle.layout.specs.Read.{Reading, read, badAt}
 use Rattle.types.specs.declared.Rule.{Rule}
 use Rattle.script_places.specs.Says.{readingSays}
-use Rattle.script_places.proofs.Says.{Both, both}
+use Rattle.script_places.proofs.Says.{Telling}
 use Rattle.script_rules.specs.declared.RuleRead.{RuleRead}
 use Rattle.script_rules.specs.Views.{ruleRead, ruleSays}
 
-rule-law : (m : Reading Rule) → ruleSays (ruleRead m) ≡ readingSays m
+pub rule-law : (m : Reading Rule) → ruleSays (ruleRead m) ≡ readingSays m
 unfolding choose
 rule-law (read r xs p) = refl
 rule-law (badAt p) = refl
 
-pub rule-both : (m : Reading Rule) {r : RuleRead} → r ≡ ruleRead m → Both ruleRead ruleSays readingSays m r
-rule-both m e = both ruleRead ruleSays readingSays m (rule-law m) e
+abbrev pub rule-tells : Telling Rule RuleRead
+rule-tells = record { image = ruleRead; says = ruleSays; law = rule-law }

@@ -2,7 +2,7 @@
 use native.Mathlib.Omega.{arith}
 use mathlib.Core.Path.{refl, sym, ap, _∙_}
 use Rattle.script_records.specs.Views.{messageEnd, envelopePart}
-use Rattle.script_records.proofs.Laws.{envelope-at, no-envelope, message-found, message-stuck}
+use Rattle.script_records.proofs.Laws.{envelope-at, no-envelope, message-back}
 use borrow.Author.Needs.{needs}
 use Rattle.script_records.proofs.envelope_part.Statement.{statement}
 use Rattle.script_records.proofs.envelope_part.Tie as tie
@@ -35,7 +35,7 @@ returns c =
       λ xs h. sym (ap envelopePart
           (envelope-at xs (a .f) (a .at) (c .before .before .before .before .before .cut8 .ensures xs h)
           (c .before .before .before .before .cut82 .ensures xs h) refl
-          (message-found (sym (c .before .m .given .1) ∙ m .ensures .0 xs h)))),
+          (message-back (sym (c .before .m .given .1) ∙ m .ensures .0 xs h)))),
       omega (arith, m .ensures .1, ap messageEnd (c .before .m .given .1)),
     )
 
@@ -45,7 +45,7 @@ returns-2 c =
     let m = c .before .before .message-part in (
       λ xs h. sym (ap envelopePart
           (no-envelope xs (a .f) (a .at) (c .before .before .before .before .cut8 .ensures xs h) (c .before .before .before .cut82 .ensures xs h) refl
-          (message-stuck (sym (c .enum-told .given .1) ∙ m .ensures .0 xs h)))),
+          (message-back (sym (c .enum-told .given .1) ∙ m .ensures .0 xs h)))),
       search needs,
     )
 

@@ -1,16 +1,22 @@
 -- The action's part from the place on, and its end.
 use native.Mathlib.Omega.{arith}
-use mathlib.Core.Path.{refl, sym, ap, _∙_}
-use lib.ListN.{drop}
-use Rattle.layout.specs.Read.{one}
+use mathlib.Core.Path.{_≡_, refl, sym, ap, _∙_}
+use Rattle.layout.specs.Form.{follow}
 use Rattle.rules.specs.Script.{actionForm}
-use Rattle.script_records.specs.Views.{actionRead, actionEnd}
 use Rattle.script_places.proofs.Laws.{tells-at, tells-not, tells-stuck}
-use Rattle.script_records.proofs.Laws.{stand, action-found, action-ended, action-stuck}
-use Rattle.script_records.proofs.Says.{action-both}
+use Rattle.script_records.specs.Views.{actionPart, actionEnd}
+use Rattle.script_records.proofs.Laws.{stand, action-back}
+use Rattle.script_records.proofs.Says.{action-tells}
 use borrow.Author.Needs.{needs}
 use Rattle.script_records.proofs.read_action.Statement.{statement}
 use Rattle.script_records.proofs.read_action.Tie as tie
+
+-- what the two words lead the form to
+part
+    : (r : tie.After-action-part)
+    → r .action-part .result
+    ≡ actionPart (follow (r .before .before .before .from .result .now) (actionForm (r .before .before .before .before .before .args .f)) 0)
+part r = r .action-part .ensures .0 _ (record { first = r .before .before .word .ensures; second = r .before .word2 .ensures })
 
 from-requires : tie.Need-from-requires
 from-requires c κs = search needs
@@ -65,55 +71,40 @@ returns : tie.Need-returns
 returns c =
     let r = c .before .before .before .before .before .before .before in
     let a = r .before .before .before .before .before .args in
-    let xs = drop (a .at) (a .script .now) in
-    let h = stand (a .script .now) (a .at) (r .before .before .before .from .ensures) (r .before .before .word .ensures) (r .before .word2 .ensures) in
-    action-both (one (actionForm (a .f)) xs (a .at))
-    (tells-at actionRead (actionForm (a .f)) (a .script .now) (a .at) refl
-    (action-found (sym (c .before .before .before .before .before .x .given .1) ∙ r .action-part .ensures .0 xs h))
-    (sym (c .before .end .given .1) ∙ c .before .before .before .end-in .ensures) refl)
+    tells-at action-tells (actionForm (a .f)) (a .script .now) (a .at) (r .before .before .before .from .ensures)
+    (action-back (sym (c .before .before .before .before .before .x .given .1) ∙ part r))
+    (c .before .before .before .end-in .ensures) (c .before .end .given .1) refl
 
 returns-2 : tie.Need-returns-2
 returns-2 c =
     let r = c .before .before .before .before .before .before in
     let a = r .before .before .before .before .before .args in
-    let xs = drop (a .at) (a .script .now) in
-    let h = stand (a .script .now) (a .at) (r .before .before .before .from .ensures) (r .before .before .word .ensures) (r .before .word2 .ensures) in
-    action-both (one (actionForm (a .f)) xs (a .at))
-    (tells-not actionRead (actionForm (a .f)) (a .script .now) (a .at) refl
-    (action-found (sym (c .before .before .before .before .x .given .1) ∙ r .action-part .ensures .0 xs h))
-    (sym (c .enum-told .given .1) ∙ c .before .before .end-in .ensures))
+    tells-not action-tells (actionForm (a .f)) (a .script .now) (a .at) (r .before .before .before .from .ensures)
+    (action-back (sym (c .before .before .before .before .x .given .1) ∙ part r))
+    (c .before .before .end-in .ensures) (c .enum-told .given .1) refl
 
 returns-3 : tie.Need-returns-3
 returns-3 c =
     let r = c .before .before .before .before .before .before .before in
     let a = r .before .before .before .before .before .args in
-    let xs = drop (a .at) (a .script .now) in
-    let h = stand (a .script .now) (a .at) (r .before .before .before .from .ensures) (r .before .before .word .ensures) (r .before .word2 .ensures) in
-    action-both (one (actionForm (a .f)) xs (a .at))
-    (tells-at actionRead (actionForm (a .f)) (a .script .now) (a .at) refl
-    (action-ended (sym (c .before .before .before .before .before .x2 .given .1) ∙ r .action-part .ensures .0 xs h))
-    (sym (c .before .end2 .given .1) ∙ c .before .before .before .end-in2 .ensures) refl)
+    tells-at action-tells (actionForm (a .f)) (a .script .now) (a .at) (r .before .before .before .from .ensures)
+    (action-back (sym (c .before .before .before .before .before .x2 .given .1) ∙ part r))
+    (c .before .before .before .end-in2 .ensures) (c .before .end2 .given .1) refl
 
 returns-4 : tie.Need-returns-4
 returns-4 c =
     let r = c .before .before .before .before .before .before in
     let a = r .before .before .before .before .before .args in
-    let xs = drop (a .at) (a .script .now) in
-    let h = stand (a .script .now) (a .at) (r .before .before .before .from .ensures) (r .before .before .word .ensures) (r .before .word2 .ensures) in
-    action-both (one (actionForm (a .f)) xs (a .at))
-    (tells-not actionRead (actionForm (a .f)) (a .script .now) (a .at) refl
-    (action-ended (sym (c .before .before .before .before .x2 .given .1) ∙ r .action-part .ensures .0 xs h))
-    (sym (c .enum-told2 .given .1) ∙ c .before .before .end-in2 .ensures))
+    tells-not action-tells (actionForm (a .f)) (a .script .now) (a .at) (r .before .before .before .from .ensures)
+    (action-back (sym (c .before .before .before .before .x2 .given .1) ∙ part r))
+    (c .before .before .end-in2 .ensures) (c .enum-told2 .given .1) refl
 
 returns-5 : tie.Need-returns-5
 returns-5 c =
     let r = c .before .before in
     let a = r .before .before .before .before .before .args in
-    let xs = drop (a .at) (a .script .now) in
-    let h = stand (a .script .now) (a .at) (r .before .before .before .from .ensures) (r .before .before .word .ensures) (r .before .word2 .ensures) in
-    action-both (one (actionForm (a .f)) xs (a .at))
-    (tells-stuck actionRead (actionForm (a .f)) (a .script .now) (a .at) refl
-    (action-stuck (sym (c .enum-told3 .given .1) ∙ r .action-part .ensures .0 xs h)))
+    tells-stuck action-tells (actionForm (a .f)) (a .script .now) (a .at) (r .before .before .before .from .ensures)
+    (action-back (sym (c .enum-told3 .given .1) ∙ part r)) refl
 
 pub read-action-spec : {M : Type 1} → statement M
 read-action-spec =

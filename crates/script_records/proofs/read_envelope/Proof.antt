@@ -1,16 +1,22 @@
 -- The envelope's part from the place on, and its end.
 use native.Mathlib.Omega.{arith}
-use mathlib.Core.Path.{refl, sym, ap, _∙_}
-use lib.ListN.{drop}
-use Rattle.layout.specs.Read.{one}
+use mathlib.Core.Path.{_≡_, refl, sym, ap, _∙_}
+use Rattle.layout.specs.Form.{follow}
 use Rattle.rules.specs.Script.{envelopeForm}
-use Rattle.script_records.specs.Views.{envelopeRead, envelopeEnd}
 use Rattle.script_places.proofs.Laws.{tells-at, tells-not, tells-stuck}
-use Rattle.script_records.proofs.Laws.{stand, envelope-found, envelope-stuck}
-use Rattle.script_records.proofs.Says.{envelope-both}
+use Rattle.script_records.specs.Views.{envelopePart, envelopeEnd}
+use Rattle.script_records.proofs.Laws.{stand, envelope-back}
+use Rattle.script_records.proofs.Says.{envelope-tells}
 use borrow.Author.Needs.{needs}
 use Rattle.script_records.proofs.read_envelope.Statement.{statement}
 use Rattle.script_records.proofs.read_envelope.Tie as tie
+
+-- what the two words lead the form to
+part
+    : (r : tie.After-envelope-part)
+    → r .envelope-part .result
+    ≡ envelopePart (follow (r .before .before .before .from .result .now) (envelopeForm (r .before .before .before .before .before .args .f)) 0)
+part r = r .envelope-part .ensures .0 _ (record { first = r .before .before .word .ensures; second = r .before .word2 .ensures })
 
 from-requires : tie.Need-from-requires
 from-requires c κs = search needs
@@ -48,33 +54,24 @@ returns : tie.Need-returns
 returns c =
     let r = c .before .before .before .before .before .before .before in
     let a = r .before .before .before .before .before .args in
-    let xs = drop (a .at) (a .script .now) in
-    let h = stand (a .script .now) (a .at) (r .before .before .before .from .ensures) (r .before .before .word .ensures) (r .before .word2 .ensures) in
-    envelope-both (one (envelopeForm (a .f)) xs (a .at))
-    (tells-at envelopeRead (envelopeForm (a .f)) (a .script .now) (a .at) refl
-    (envelope-found (sym (c .before .before .before .before .before .x .given .1) ∙ r .envelope-part .ensures .0 xs h))
-    (sym (c .before .end .given .1) ∙ c .before .before .before .end-in .ensures) refl)
+    tells-at envelope-tells (envelopeForm (a .f)) (a .script .now) (a .at) (r .before .before .before .from .ensures)
+    (envelope-back (sym (c .before .before .before .before .before .x .given .1) ∙ part r))
+    (c .before .before .before .end-in .ensures) (c .before .end .given .1) refl
 
 returns-2 : tie.Need-returns-2
 returns-2 c =
     let r = c .before .before .before .before .before .before in
     let a = r .before .before .before .before .before .args in
-    let xs = drop (a .at) (a .script .now) in
-    let h = stand (a .script .now) (a .at) (r .before .before .before .from .ensures) (r .before .before .word .ensures) (r .before .word2 .ensures) in
-    envelope-both (one (envelopeForm (a .f)) xs (a .at))
-    (tells-not envelopeRead (envelopeForm (a .f)) (a .script .now) (a .at) refl
-    (envelope-found (sym (c .before .before .before .before .x .given .1) ∙ r .envelope-part .ensures .0 xs h))
-    (sym (c .enum-told .given .1) ∙ c .before .before .end-in .ensures))
+    tells-not envelope-tells (envelopeForm (a .f)) (a .script .now) (a .at) (r .before .before .before .from .ensures)
+    (envelope-back (sym (c .before .before .before .before .x .given .1) ∙ part r))
+    (c .before .before .end-in .ensures) (c .enum-told .given .1) refl
 
 returns-3 : tie.Need-returns-3
 returns-3 c =
     let r = c .before .before in
     let a = r .before .before .before .before .before .args in
-    let xs = drop (a .at) (a .script .now) in
-    let h = stand (a .script .now) (a .at) (r .before .before .before .from .ensures) (r .before .before .word .ensures) (r .before .word2 .ensures) in
-    envelope-both (one (envelopeForm (a .f)) xs (a .at))
-    (tells-stuck envelopeRead (envelopeForm (a .f)) (a .script .now) (a .at) refl
-    (envelope-stuck (sym (c .enum-told2 .given .1) ∙ r .envelope-part .ensures .0 xs h)))
+    tells-stuck envelope-tells (envelopeForm (a .f)) (a .script .now) (a .at) (r .before .before .before .from .ensures)
+    (envelope-back (sym (c .enum-told2 .given .1) ∙ part r)) refl
 
 pub read-envelope-spec : {M : Type 1} → statement M
 read-envelope-spec =

@@ -1,13 +1,10 @@
 -- Its four fields lead the form to the header, or to nothing where a test fails; then it ends after 16 bits.
 use mathlib.Core.Path.{refl, sym, _∙_}
 use borrow.Author.Tests.{not-true, not-false}
-use lib.ListN.{drop}
-use Rattle.layout.specs.Read.{one}
 use Rattle.rules.specs.Script.{versions, headerForm}
-use Rattle.script_records.specs.Views.{headerRead}
 use Rattle.script_places.proofs.Laws.{tells-at, tells-not, tells-stuck}
 use Rattle.script_records.proofs.Laws.{header-at, no-header}
-use Rattle.script_records.proofs.Says.{header-both}
+use Rattle.script_records.proofs.Says.{header-tells}
 use borrow.Author.Needs.{needs}
 use Rattle.script_records.proofs.read_header.Statement.{statement}
 use Rattle.script_records.proofs.read_header.Tie as tie
@@ -33,11 +30,10 @@ header-fits-requires c κs = search needs
 returns : tie.Need-returns
 returns c =
     let a = c .before .before .before .before .before .before .before .before .args in
-    header-both (one (headerForm versions) (drop (a .at) (a .script .now)) (a .at))
-    (tells-stuck headerRead (headerForm versions) (a .script .now) (a .at) (c .before .before .before .before .before .before .from .ensures)
+    tells-stuck header-tells (headerForm versions) (a .script .now) (a .at) (c .before .before .before .before .before .before .from .ensures)
     (no-header _ versions (c .before .before .before .before .before .field8 .ensures) (c .before .before .before .before .field82 .ensures)
     (c .before .before .before .field83 .ensures) (c .before .before .field84 .ensures)
-    (sym (c .before .header-fits .ensures) ∙ not-true _ (c .if1 .taken))))
+    (sym (c .before .header-fits .ensures) ∙ not-true _ (c .if1 .taken))) refl
 
 end-of-requires : tie.Need-end-of-requires
 end-of-requires c κs = search needs
@@ -51,26 +47,24 @@ enum-told c = search needs
 returns-2 : tie.Need-returns-2
 returns-2 c =
     let a = c .before .before .before .before .before .before .before .before .before .before .before .before .args in
-    header-both (one (headerForm versions) (drop (a .at) (a .script .now)) (a .at))
-    (tells-at headerRead (headerForm versions) (a .script .now) (a .at)
+    tells-at header-tells (headerForm versions) (a .script .now) (a .at)
     (c .before .before .before .before .before .before .before .before .before .before .from .ensures)
     (header-at _ versions (c .before .before .before .before .before .before .before .before .before .field8 .ensures)
     (c .before .before .before .before .before .before .before .before .field82 .ensures)
     (c .before .before .before .before .before .before .before .field83 .ensures) (c .before .before .before .before .before .before .field84 .ensures)
     (sym (c .before .before .before .before .before .header-fits .ensures) ∙ not-false _ (c .before .before .before .before .if1 .left)))
-    (sym (c .before .end .given .1) ∙ c .before .before .before .end-of .ensures) refl)
+    (c .before .before .before .end-of .ensures) (c .before .end .given .1) refl
 
 returns-3 : tie.Need-returns-3
 returns-3 c =
     let a = c .before .before .before .before .before .before .before .before .before .before .before .args in
-    header-both (one (headerForm versions) (drop (a .at) (a .script .now)) (a .at))
-    (tells-not headerRead (headerForm versions) (a .script .now) (a .at)
+    tells-not header-tells (headerForm versions) (a .script .now) (a .at)
     (c .before .before .before .before .before .before .before .before .before .from .ensures)
     (header-at _ versions (c .before .before .before .before .before .before .before .before .field8 .ensures)
     (c .before .before .before .before .before .before .before .field82 .ensures) (c .before .before .before .before .before .before .field83 .ensures)
     (c .before .before .before .before .before .field84 .ensures)
     (sym (c .before .before .before .before .header-fits .ensures) ∙ not-false _ (c .before .before .before .if1 .left)))
-    (sym (c .enum-told .given .1) ∙ c .before .before .end-of .ensures))
+    (c .before .before .end-of .ensures) (c .enum-told .given .1) refl
 
 pub read-header-spec : {M : Type 1} → statement M
 read-header-spec =

@@ -4,8 +4,9 @@ use Rattle.layout.specs.Read.{one}
 use Rattle.types.specs.declared.Format.{Format}
 use Rattle.rules.specs.Script.{versions, formatOf, Fine, actionForm}
 use Rattle.rules.proofs.Formats.{formats-fine}
+use Rattle.script_places.proofs.Says.{tells}
 use Rattle.script_records.specs.Views.{actionRead}
-use Rattle.script_records.proofs.Says.{action-both}
+use Rattle.script_records.proofs.Says.{action-tells}
 use borrow.Author.Needs.{needs}
 use Rattle.script_records.proofs.take_action.Statement.{statement}
 use Rattle.script_records.proofs.take_action.Tie as tie
@@ -19,7 +20,7 @@ read-action-requires c κs = subst Fine (sym (c .format-of .ensures)) (formats-f
 returns : tie.Need-returns
 returns c =
     let a = c .before .before .before .args in
-    action-both (one (actionForm (formatOf versions (a .version))) (a .s .now) 0)
+    tells action-tells (one (actionForm (formatOf versions (a .version))) (a .s .now) 0)
     (c .read-action .ensures .0 ∙ ap (λ (f : Format). actionRead (one (actionForm f) (a .s .now) 0)) (c .before .format-of .ensures))
 
 pub take-action-spec : {M : Type 1} → statement M

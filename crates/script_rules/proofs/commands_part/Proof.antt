@@ -19,7 +19,7 @@ use Rattle.script_rules.specs.declared.CommandsPart.{CommandsPart}
 use Rattle.script_rules.specs.declared.CommandPart.the-variants as commands
 use Rattle.script_rules.specs.Views.{commandEnd, commandPart, commandsPart}
 use Rattle.script_places.proofs.Laws.{then-at, then-stuck}
-use Rattle.script_rules.proofs.Laws.{times-stuck, command-found, command-stuck, slots-are, more-used, more-laid}
+use Rattle.script_rules.proofs.Laws.{times-stuck, command-back, slots-are, more-used, more-laid}
 use Rattle.script_rules.proofs.commands_part.Statement.{statement}
 use Rattle.script_rules.proofs.commands_part.Tie as tie
 
@@ -48,7 +48,7 @@ module _ {s : List ℕ} {at count : ℕ} {f : Format} {cs : List Slot} {end i : 
         near = omega (arith, t .near);
         laid = more-laid mostCommands zeroSlot cs i (omega arith) w y;
         reads = ap (λ (j : ℕ). follow s (times j (commandForm f)) at) (add-one i)
-            ∙ follow-more s (commandForm f) i at (t .reads) (command-found k)
+            ∙ follow-more s (commandForm f) i at (t .reads) (command-back k)
             ∙ ap (λ (q : List RuleCommand). reached q n) (sym (ap told e ∙ map-append told1 (take i cs) (y ∷ [])));
       }
 
@@ -56,7 +56,7 @@ module _ {s : List ℕ} {at count : ℕ} {f : Format} {cs : List Slot} {end i : 
   all-stuck k =
       let e : i + suc (count - (i + 1)) ≡ count = omega arith in
       ap (λ (j : ℕ). follow s (times j (commandForm f)) at) (sym e)
-      ∙ times-stuck s (commandForm f) i (count - (i + 1)) at (t .reads) (command-stuck k)
+      ∙ times-stuck s (commandForm f) i (count - (i + 1)) at (t .reads) (command-back k)
 
 abbrev Inv-loop : tie.InvT-loop
 Inv-loop s at count f commands₀ end₀ i₀ commands end i = Turn s at count f commands end i

@@ -1,13 +1,10 @@
 -- The count stands behind the other fields and says how many commands follow. Too many, or one that is stuck, leave no rule.
-use mathlib.Core.Path.{refl, sym, _∙_}
+use mathlib.Core.Path.{refl}
 use borrow.Author.Tests.{not-true, not-false}
-use lib.ListN.{drop}
-use Rattle.layout.specs.Read.{one}
 use Rattle.rules.specs.Script.{ruleForm}
-use Rattle.script_rules.specs.Views.{ruleRead}
 use Rattle.script_places.proofs.Laws.{tells-at, tells-not, tells-stuck}
 use Rattle.script_rules.proofs.Laws.{rule-at, rule-stuck, no-rule, commands-found, commands-stuck}
-use Rattle.script_rules.proofs.Says.{rule-both}
+use Rattle.script_rules.proofs.Says.{rule-tells}
 use borrow.Author.Needs.{needs}
 use Rattle.script_rules.proofs.read_rule.Statement.{statement}
 use Rattle.script_rules.proofs.read_rule.Tie as tie
@@ -31,10 +28,8 @@ returns : tie.Need-returns
 returns c =
     let r = c .before .before .before in
     let a = r .before .before .args in
-    rule-both (one (ruleForm (a .f)) (drop (a .at) (a .script .now)) (a .at))
-    (c .bad-rule .ensures
-    ∙ tells-stuck ruleRead (ruleForm (a .f)) (a .script .now) (a .at) (r .from .ensures)
-    (no-rule _ (a .f) (c .before .before .field8 .ensures) refl (c .before .if1 .taken)))
+    tells-stuck rule-tells (ruleForm (a .f)) (a .script .now) (a .at) (r .from .ensures)
+    (no-rule _ (a .f) (c .before .before .field8 .ensures) refl (c .before .if1 .taken)) (c .bad-rule .ensures)
 
 add-commands-part : tie.Need-add-commands-part
 add-commands-part c = search needs
@@ -50,11 +45,9 @@ returns-2 c =
     let r = c .before .before .before .before .before in
     let a = r .before .before .args in
     let k = c .before .before .commands-part .ensures .0 in
-    rule-both (one (ruleForm (a .f)) (drop (a .at) (a .script .now)) (a .at))
-    (c .bad-rule2 .ensures
-    ∙ tells-stuck ruleRead (ruleForm (a .f)) (a .script .now) (a .at) (r .from .ensures)
+    tells-stuck rule-tells (ruleForm (a .f)) (a .script .now) (a .at) (r .from .ensures)
     (rule-stuck _ (a .f) (c .before .before .before .before .field8 .ensures) refl (c .before .before .before .if1 .left)
-    (commands-stuck k (not-true _ (c .before .if2 .taken)))))
+    (commands-stuck k (not-true _ (c .before .if2 .taken)))) (c .bad-rule2 .ensures)
 
 end-of-requires : tie.Need-end-of-requires
 end-of-requires c κs = search needs
@@ -76,24 +69,21 @@ returns-3 c =
     let r = c .before .before .before .before .before .before .before .before .before in
     let a = r .before .before .args in
     let k = c .before .before .before .before .before .before .commands-part .ensures .0 in
-    rule-both (one (ruleForm (a .f)) (drop (a .at) (a .script .now)) (a .at))
-    (tells-at ruleRead (ruleForm (a .f)) (a .script .now) (a .at) (r .from .ensures)
+    tells-at rule-tells (ruleForm (a .f)) (a .script .now) (a .at) (r .from .ensures)
     (rule-at _ (a .f) (c .before .before .before .before .before .before .before .before .field8 .ensures) refl
     (c .before .before .before .before .before .before .before .if1 .left)
     (commands-found k (not-false _ (c .before .before .before .before .before .if2 .left))))
-    (sym (c .before .before .end .given .1) ∙ c .before .before .before .before .end-of .ensures) (rw (c .rule-of .ensures)))
+    (c .before .before .before .before .end-of .ensures) (c .before .before .end .given .1) (rw (c .rule-of .ensures))
 
 returns-4 : tie.Need-returns-4
 returns-4 c =
     let r = c .before .before .before .before .before .before .before .before in
     let a = r .before .before .args in
     let k = c .before .before .before .before .before .commands-part .ensures .0 in
-    rule-both (one (ruleForm (a .f)) (drop (a .at) (a .script .now)) (a .at))
-    (c .bad-rule3 .ensures
-    ∙ tells-not ruleRead (ruleForm (a .f)) (a .script .now) (a .at) (r .from .ensures)
+    tells-not rule-tells (ruleForm (a .f)) (a .script .now) (a .at) (r .from .ensures)
     (rule-at _ (a .f) (c .before .before .before .before .before .before .before .field8 .ensures) refl
     (c .before .before .before .before .before .before .if1 .left) (commands-found k (not-false _ (c .before .before .before .before .if2 .left))))
-    (sym (c .before .enum-told .given .1) ∙ c .before .before .before .end-of .ensures))
+    (c .before .before .before .end-of .ensures) (c .before .enum-told .given .1) (c .bad-rule3 .ensures)
 
 pub read-rule-spec : {M : Type 1} → statement M
 read-rule-spec =
