@@ -6,7 +6,10 @@ use replay_input::Input;
 use replay_input::Source;
 use replay_input::read_all;
 use replay_input::source_of;
+use replay_script::MOST_FRAME;
+use replay_script::MOST_LINE;
 use replay_script::replay;
+use types::MOST_BYTES;
 ghost use mathlib.Core.Path.{_≡_};
 ghost use lib.ListN.{length, take};
 ghost use Rattle.io.specs.Counts.{Counts};
@@ -15,18 +18,22 @@ ghost use Rattle.rules.specs.Script.{versions};
 ghost use Rattle.rules.specs.Program.{replay};
 ghost use Rattle.replay_io.specs.Views.{Sized};
 
-// A script has at most 65,536 bytes. One byte more is read, since a longer script is refused by its length alone.
-fn script_room() -> [u8; 65537]
+// One byte more is read than a script may have, since a longer script is refused by its length alone.
+const SCRIPT: usize = MOST_BYTES + 1;
+
+// As much as `replay_script::room_for` has for the longest script, so that every output fits and nothing is measured first.
+const OUTPUT: usize = MOST_FRAME + MOST_LINE * MOST_BYTES;
+
+fn script_room() -> [u8; SCRIPT]
     ensures { λ r. ⌜ 65537 ≡ length r ⌝ }
 {
-    [0; 65537]
+    [0; SCRIPT]
 }
 
-// As much as `replay_script::room_for` has for the longest script, 160 + 23 * 65,536, so that every output fits and nothing is measured first.
-fn output_room() -> [u8; 1507488]
+fn output_room() -> [u8; OUTPUT]
     ensures { λ r. ⌜ Sized 1507488 r ⌝ }
 {
-    [0; 1507488]
+    [0; OUTPUT]
 }
 
 // Has the script replayed: the output stands at the start of the buffer, and always fits.

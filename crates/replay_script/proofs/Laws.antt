@@ -7,12 +7,12 @@ use mathlib.Core.Path.{_≡_, refl, sym, ap, _∙_, subst}
 use mathlib.Core.Bool.{Bool, true, false, not, true≢false}
 use mathlib.Core.Logic.{_⊎_, inl, inr}
 use mathlib.Core.List.{List, [], _∷_, _++_}
-use lib.ListN.{length, drop, length-append, length-drop}
-use lib.Dec.{eqb, leb, lit≤}
-use borrow.Author.Tests.{eqb-true, leb-true, le-leb, lt-leb}
+use lib.ListN.{length, drop}
+use lib.Dec.{eqb, lit≤}
+use borrow.Author.Tests.{eqb-true, le-leb, lt-leb}
 use Rattle.lists.specs.Lists.{all, choose}
 use Rattle.lists.proofs.Members.{not-true, any-in, all-in}
-use Rattle.types.specs.Capacities.{mostBytes, mostEntries}
+use Rattle.types.specs.Capacities.{mostEntries}
 use Rattle.types.specs.declared.Action.{Action}
 use Rattle.types.specs.declared.Format.{Format}
 use Rattle.answers.specs.Answers.{answerNumber, answerOf}
@@ -31,7 +31,6 @@ use Rattle.rules.proofs.Answers.{startNumbers, start-answers, start-done}
 use Rattle.rules.proofs.Formed.{start-well}
 use Rattle.net_network.specs.Views.{netView}
 use Rattle.answers.specs.Answers.{isDone}
-use Rattle.script_check.specs.declared.Layout.{Layout}
 use Rattle.script_check.specs.declared.Layout.the-variants as layout
 use Rattle.script_check.specs.Views.{layoutOf}
 use Rattle.script_check.proofs.Whole.{Parts}
@@ -222,11 +221,3 @@ module _ {l out mid : List ℕ} {k : ℕ} (p : Piece false 0 l out k mid) where
   pub told-none : length mid < k → Told l out k mid
   unfolding choose
   told-none h = record { size = omega (arith, p .next); bytes = untouched ∙ rw (lt-leb k (length out) (omega (arith, h, ap length untouched))) }
-
-pub kept-size : {l out left : List ℕ} {r : ℕ} → Told l out r left → length left ≡ length out
-unfolding choose
-kept-size {l} {out} {left} {r} t = ap length (t .bytes) ∙ go (leb r (length out)) refl
-  where
-    go : (b : Bool) → leb r (length out) ≡ b → length (choose b (l ++ drop r out) out) ≡ length out
-    go true e = let h = leb-true r (length out) e in omega (arith, t .size, length-append l (drop r out), length-drop r out)
-    go false e = refl

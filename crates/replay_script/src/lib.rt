@@ -24,6 +24,12 @@ ghost use Rattle.script_check.specs.Views.{layoutOf};
 ghost use Rattle.replay_lines.specs.Pieces.{Fits, Piece};
 ghost use Rattle.replay_script.specs.Views.{longest, Told};
 
+// The most bytes that the first line and the last have together, of 80 each. They frame the lines of the actions.
+pub const MOST_FRAME: usize = 160;
+
+// The most bytes that the line of an action has: a digit, a blank, the 20 digits of a length, and the end of the line.
+pub const MOST_LINE: usize = 23;
+
 // A script whose layout is good: the start, and if it is done the run.
 fn tell_run(script: &[u8], out: &mut [u8], write: bool) -> usize
     requires { ⌜ (layoutOf (readScript versions (now script)) ≡ Good) × Fits write 0 (replay base versions (now script)) (now out) ⌝ }
@@ -51,7 +57,7 @@ fn room_for(bytes: usize) -> usize
     requires { ⌜ bytes ≤ mostBytes ⌝ }
     ensures { λ r. ⌜ r ≡ longest bytes ⌝ }
 {
-    160 + 23 * bytes
+    MOST_FRAME + MOST_LINE * bytes
 }
 
 // Where the buffer is long enough for any script of this length, the output is not measured first.

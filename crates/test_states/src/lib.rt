@@ -9,6 +9,7 @@ use script_records::format_of;
 use script_records::read_action;
 use sys_step::step;
 use sys_system::System;
+use test_dump::SIZE;
 use test_dump::dump;
 use types::Format;
 ghost use mathlib.Core.Path.{_≡_};
@@ -50,7 +51,7 @@ fn put(out: &mut [u8], at: usize, s: System) -> usize
     requires { ⌜ at ≤ length (now out) ⌝ }
     ensures { λ r. ⌜ r ≤ length (now (out .exit)) ⌝ }
 {
-    if out.len() - at < 10409 {
+    if out.len() - at < SIZE {
         return at;
     }
     dump(out, at, s)
