@@ -11,8 +11,7 @@ use lib.ListN.{length, getD, drop, List·getD-eq-default}
 use lib.Dec.{leb, ltb, eqb, lit≤}
 use Rattle.lists.specs.Lists.{choose}
 use Rattle.layout.specs.Bits.{fieldAt}
-use Rattle.layout.specs.Form.{Form, filled, refuse, field, Reached, reached, stuck, Got, got, bad, follow, only}
-use Rattle.layout.specs.Form.{recordOf}
+use Rattle.layout.specs.Form.{Form, filled, refuse, field, Reached, reached, stuck, Got, got, bad, follow, only, recordOf}
 use Rattle.layout.specs.Read.{placed, one}
 use Rattle.layout.proofs.Laws.{onReached, follow-then, found, record-fits, follow-from, fed, follow-only, follow-not}
 use Rattle.script_bits.specs.Front.{Front}

@@ -5,13 +5,13 @@ use mathlib.Core.Path.{_≡_, refl}
 use Rattle.layout.specs.Read.{Reading, read, badAt}
 use Rattle.types.specs.declared.Envelope.{Envelope}
 use Rattle.rules.specs.Script.{Header, Item, end, item}
+use Rattle.script_places.specs.Says.{readingSays}
 use Rattle.script_places.proofs.Says.{Telling}
 use Rattle.script_records.specs.declared.HeaderRead.{HeaderRead}
 use Rattle.script_records.specs.declared.CountRead.{CountRead}
 use Rattle.script_records.specs.declared.EnvelopeRead.{EnvelopeRead}
 use Rattle.script_records.specs.declared.ActionRead.{ActionRead}
 use Rattle.script_records.specs.Views.{headerRead, countRead, envelopeRead, actionRead}
-use Rattle.script_places.specs.Says.{readingSays}
 use Rattle.script_records.specs.Says.{headerSays, countSays, envelopeSays, actionSays}
 
 pub header-law : (m : Reading Header) → headerSays (headerRead m) ≡ readingSays m
