@@ -8,13 +8,12 @@ use mathlib.Core.Bool.{Bool, true, false, _||_, true≢false}
 use mathlib.Core.List.{List, map}
 use lib.ListN.{length, take, length-map}
 use lib.Seq.{length-take-le}
-use Rattle.lists.specs.Lists.{choose, pad}
+use Rattle.lists.specs.Lists.{pad}
 use Rattle.lists.proofs.Places.{laid-length}
 use Rattle.types.specs.declared.Envelope.{Envelope}
 use Rattle.types.specs.declared.Kind.{Kind}
 use Rattle.types.specs.declared.Kind.the-variants.{Ordered, UnorderedDuplicating, UnorderedNonDuplicating}
 use Rattle.types.specs.declared.LastMessage.{LastMessage}
-use Rattle.types.specs.declared.LastMessage.the-variants.{Delivered}
 use Rattle.types.specs.Capacities.{mostEntries, mostCopies}
 use Rattle.answers.specs.Answers.{answerOf}
 use Rattle.rules.specs.Outcome.{Outcome, done, guard, Room, base}
@@ -23,14 +22,15 @@ use Rattle.net_cells.specs.Cells.{cellOf, entryOf}
 use Rattle.net_layout.specs.Layout.{LaidOut, Readable}
 use Rattle.net_layout.proofs.Laws.{out-room, out-used, out-entries}
 use Rattle.net_rows.specs.declared.Sent.{Sent}
-use Rattle.net_rows.specs.Views.{netOf, roomOf, Changed}
+use Rattle.net_rows.specs.Views.{netOf, lastAfter, roomOf, Changed}
 use Rattle.net_rows.specs.Views as rows
 use Rattle.net_rows.proofs.Ready as kept
+use Rattle.net_rows.proofs.Last.{delivered-kind, delivered-last}
 use Rattle.net_network.specs.declared.Network.{Network}
 use Rattle.net_network.specs.declared.Change.{Change}
 use Rattle.net_network.specs.declared.Change.the-variants.{Send, Drop, Deliver}
 use Rattle.net_network.specs.Views.{zeroEntry, entryList, netView, networkOf, NetLaid, NetReady, back, sentOf}
-use Rattle.net_network.specs.Parts.{readBack, outcomeOf, lastAfter, lastOf}
+use Rattle.net_network.specs.Parts.{readBack, outcomeOf, lastOf}
 
 module _ (n : Network) (laid : NetLaid n) where
   pub used-is : length (entryList n) ≡ n .used
@@ -87,25 +87,7 @@ module _ {k : Kind} {cs : List (List ℕ)} {used n : ℕ} (ready : rows.NetReady
       λ i. record { kind = k; entries = pad mostEntries zeroEntry (rows.entryList cs used); used = v i; last = last }
 
 -- ---- a change, laid back
--- What a Deliver makes of kind and last message; where the duplicating kind cannot refuse, another keeps its last message.
-delivering-kind : (e : Envelope) (m : Net) → delivering e m .kind ≡ m .kind
-unfolding delivering dropping choose
-delivering-kind e m = go (isDuplicating (m .kind))
-  where
-    go : (b : Bool) → choose b (record { kind = m .kind; entries = m .entries; last = Delivered e }) (dropping e m) .kind ≡ m .kind
-    go true = refl
-    go false = refl
-
-delivering-last : (e : Envelope) (m : Net) → delivering e m .last ≡ lastAfter (m .kind) e (m .last)
-unfolding delivering dropping choose isDuplicating
-delivering-last e m = go (m .kind)
-  where
-    go : (k : Kind)
-        → choose (isDuplicating k) (record { kind = m .kind; entries = m .entries; last = Delivered e }) (dropping e m) .last ≡ lastAfter k e (m .last)
-    go Ordered = refl
-    go UnorderedDuplicating = refl
-    go UnorderedNonDuplicating = refl
-
+-- The duplicating kind cannot refuse a Deliver; another keeps its last message.
 refused-last : (k : Kind) (e : Envelope) (last : LastMessage) (b : Bool) → (isDuplicating k || b) ≡ false → lastAfter k e last ≡ last
 unfolding isDuplicating
 refused-last Ordered e last b h = refl
@@ -171,7 +153,7 @@ module _
   unfolding onDeliver
   deliver-back e c = (
     readable-by c (unfold onDeliver in kept.deliver-ready (n .kind) (n .last) cs (n .used) count before s cs' e c),
-    guarded-back _ 3 (delivering e (netView n)) _ (delivering-kind e (netView n)) (delivering-last e (netView n))
+    guarded-back _ 3 (delivering e (netView n)) _ (delivered-kind e (netView n)) (delivered-last e (netView n))
         (refused-last (n .kind) e (n .last) (present e (netView n))) (as-struct (λ r m. onDeliver e m) c),
   )
 

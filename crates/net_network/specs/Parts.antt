@@ -5,9 +5,7 @@ use mathlib.Core.List.{List}
 use Rattle.lists.specs.Lists.{pad}
 use Rattle.types.specs.declared.Envelope.{Envelope}
 use Rattle.types.specs.declared.Kind.{Kind}
-use Rattle.types.specs.declared.Kind.the-variants.{Ordered, UnorderedDuplicating, UnorderedNonDuplicating}
 use Rattle.types.specs.declared.LastMessage.{LastMessage}
-use Rattle.types.specs.declared.LastMessage.the-variants.{Delivered}
 use Rattle.types.specs.Capacities.{mostEntries}
 use Rattle.rules.specs.Outcome.{Outcome, Room}
 use Rattle.rules.specs.Network.{Net, send, onDrop, onDeliver}
@@ -21,12 +19,6 @@ use Rattle.net_network.specs.declared.Change.the-variants.{Send, Drop, D
 abbrev pub readBack : Kind → List (List ℕ) → ℕ → LastMessage → Network
 readBack k cs used last = record { kind = k; entries = pad mostEntries zeroEntry (rows.entryList cs used); used = used; last = last }
 
--- The last message after a Deliver.
-abbrev pub lastAfter : Kind → Envelope → LastMessage → LastMessage
-lastAfter Ordered e last = last
-lastAfter UnorderedDuplicating e last = Delivered e
-lastAfter UnorderedNonDuplicating e last = last
-
 -- What the rules make of a network by a change, and the last message after it.
 abbrev pub outcomeOf : Change → Room → Envelope → Net → Outcome Net
 outcomeOf Send c e m = send c e m
@@ -36,4 +28,4 @@ outcomeOf Deliver c e m = onDeliver e m
 abbrev pub lastOf : Change → Kind → Envelope → LastMessage → LastMessage
 lastOf Send k e last = last
 lastOf Drop k e last = last
-lastOf Deliver k e last = lastAfter k e last
+lastOf Deliver k e last = rows.lastAfter k e last

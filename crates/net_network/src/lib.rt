@@ -17,10 +17,10 @@ ghost use Rattle.types.specs.Capacities.{mostEntries, mostCopies};
 ghost use Rattle.rules.specs.Outcome.{base};
 ghost use Rattle.rules.specs.Network.{send, onDeliver, onDrop, len};
 ghost use Rattle.net_layout.specs.Layout.{Readable};
-ghost use Rattle.net_rows.specs.Views.{roomOf, Makes};
+ghost use Rattle.net_rows.specs.Views.{lastAfter, roomOf, Makes};
 ghost use Rattle.net_rows.specs.Views as rows;
 ghost use Rattle.net_network.specs.Views.{entryList, netView, networkOf, NetReady, sentOf};
-ghost use Rattle.net_network.specs.Parts.{readBack, outcomeOf, lastAfter, lastOf};
+ghost use Rattle.net_network.specs.Parts.{readBack, outcomeOf, lastOf};
 
 // Places from the used count on hold the zero entry.
 pub struct Network {

@@ -11,7 +11,7 @@ use lib.Seq.{getD-take, length-take-le, take-set-lt}
 use lib.Dec.{leb}
 use borrow.Author.Tests.{le-leb, lt-leb, leb-true}
 use Rattle.lists.specs.Lists.{choose, all, lead, ins, del}
-use Rattle.lists.proofs.Places.{length-ins, lead-le, map-del}
+use Rattle.lists.proofs.Places.{length-ins, lead-le, map-del, map-set}
 use Rattle.lists.proofs.Members.{and-both}
 use Rattle.lists.proofs.Sorted.{All, all-at}
 use Rattle.types.specs.declared.Entry.{Entry}
@@ -38,11 +38,6 @@ module _ {A B : Type 0} (f : A → B) where
   map-ins zero a l = refl
   map-ins (suc at) a [] = refl
   map-ins (suc at) a (x ∷ l) = ap (λ (r : List B). f x ∷ r) (map-ins at a l)
-
-  map-set : (at : ℕ) (a : A) (l : List A) → set (map f l) at (f a) ≡ map f (set l at a)
-  map-set at a [] = refl
-  map-set zero a (x ∷ l) = refl
-  map-set (suc at) a (x ∷ l) = ap (λ (r : List B). f x ∷ r) (map-set at a l)
 
   map-get : (i : ℕ) (l : List A) (d : A) (e : B) → i < length l → getD (map f l) i e ≡ f (getD l i d)
   map-get i [] d e h = absurd (not-suc-le-zero h)

@@ -9,7 +9,10 @@ use lib.Dec.{leb}
 use Rattle.lists.specs.Lists.{choose, all, chain, del}
 use Rattle.types.specs.declared.Entry.{Entry}
 use Rattle.types.specs.declared.Kind.{Kind}
+use Rattle.types.specs.declared.Kind.the-variants.{Ordered, UnorderedDuplicating, UnorderedNonDuplicating}
+use Rattle.types.specs.declared.Envelope.{Envelope}
 use Rattle.types.specs.declared.LastMessage.{LastMessage}
+use Rattle.types.specs.declared.LastMessage.the-variants.{Delivered}
 use Rattle.types.specs.Capacities.{mostCopies}
 use Rattle.answers.specs.declared.Answer.the-variants.{Done}
 use Rattle.answers.specs.Answers.{answerOf}
@@ -29,6 +32,12 @@ netWith k last l = record { kind = k; entries = l; last = last }
 -- The last message stands apart: no change of the cells reads it.
 abbrev pub netOf : Kind → LastMessage → List (List ℕ) → ℕ → Net
 netOf k last cs used = netWith k last (entryList cs used)
+
+-- The last message after a Deliver.
+abbrev pub lastAfter : Kind → Envelope → LastMessage → LastMessage
+lastAfter Ordered e last = last
+lastAfter UnorderedDuplicating e last = Delivered e
+lastAfter UnorderedNonDuplicating e last = last
 
 -- The room is the slice's.
 abbrev pub roomOf : List (List ℕ) → Room

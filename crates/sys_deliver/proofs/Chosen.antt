@@ -26,13 +26,12 @@ use Rattle.rules.specs.Inner.{Reply, reply, ignored}
 use Rattle.rules.specs.Link.{lastTaken}
 use Rattle.rules.specs.System.{Sys, systems, act}
 use Rattle.net_rows.specs.declared.Sent.{Sent}
-use Rattle.net_rows.specs.Views.{netOf}
+use Rattle.net_rows.specs.Views.{lastAfter, netOf}
 use Rattle.link_tables.specs.Rows.{mark, orders, replied, TableLaid, rulesIn, decidingOf}
 use Rattle.link_tables.proofs.Replies.{place-counts, place-replies, place-idle}
 use Rattle.link_rows.specs.Rows.{durableIn}
 use Rattle.sys_seat.specs.Seat.{Around}
 use Rattle.sys_seat.proofs.Actions.{seat-deliver}
-use Rattle.sys_reacts.specs.Views.{lastAfter}
 use Rattle.sys_rows.specs.Rows.{actorOf}
 use Rattle.sys_moves.specs.Views.{Rows, actorAt, sysAt, capsOf, ackedIn, passedBy, takenIn, Fine, Acted, Ended, Stepped, lastThen}
 use Rattle.sys_moves.proofs.Ends.{ended-by, ended-refused}

@@ -17,12 +17,12 @@ use Rattle.rules.specs.Network.{Net, send, onDeliver}
 use Rattle.rules.specs.Link.{Send}
 use Rattle.rules.specs.System.{Actor, Sys, actor, withTimers, withNet, runCommands}
 use Rattle.link_timers.specs.Views.{listed}
-use Rattle.net_rows.specs.Views.{netOf, roomOf}
+use Rattle.net_rows.specs.Views.{lastAfter, netOf, roomOf}
 use Rattle.sys_seat.specs.Seat.{Around, holding}
 use Rattle.sys_seat.proofs.Seats.{held}
 use Rattle.sys_emits.specs.declared.Emitted.{Emitted}
 use Rattle.sys_reacts.specs.declared.First.the-variants as first
-use Rattle.sys_reacts.specs.Views.{lastAfter, Safe}
+use Rattle.sys_reacts.specs.Views.{Safe}
 use Rattle.sys_rows.specs.Rows.{actorOf}
 use Rattle.sys_moves.specs.Views.{Rows, actorAt, passedBy, Fine, Acted}
 

@@ -22,7 +22,7 @@ use Rattle.rules.specs.Network.{Net, delivering, onDeliver}
 use Rattle.rules.specs.Link.{Durable, Send, Save, acked}
 use Rattle.rules.specs.System.{Actor, Sys, withStorage, runCommands}
 use Rattle.net_rows.specs.declared.Sent.{Sent}
-use Rattle.net_rows.specs.Views.{netOf, roomOf, NetReady, Changed}
+use Rattle.net_rows.specs.Views.{lastAfter, netOf, roomOf, NetReady, Changed}
 use Rattle.net_rows.proofs.Ready.{deliver-ready}
 use Rattle.link_direct.specs.Direct.{asked, sends}
 use Rattle.link_tables.specs.Rows.{orders}
@@ -31,7 +31,7 @@ use Rattle.sys_seat.specs.Seat.{Around, holding}
 use Rattle.sys_seat.proofs.Seats.{run-save}
 use Rattle.sys_emits.proofs.Laws.{not-both}
 use Rattle.sys_reacts.specs.declared.First.the-variants as first
-use Rattle.sys_reacts.specs.Views.{frontOf, lastAfter}
+use Rattle.sys_reacts.specs.Views.{frontOf}
 use Rattle.sys_reacts.proofs.Deliver.{deliver-is, there-true, there-false, delivered-net}
 use Rattle.sys_rows.specs.Rows.{actorOf, Settled, Kept}
 use Rattle.sys_rows.proofs.Laws.{as-stored, stored-laid}

@@ -28,7 +28,7 @@ use Rattle.rules.specs.Network.{Net, delivering, isDuplicating, present, onDeli
 use Rattle.rules.specs.Link.{Durable, Command, Send, Save, withTaken, durably, output}
 use Rattle.rules.specs.System.{Actor, Sys, withTimers, withStorage, runCommands}
 use Rattle.link_timers.specs.Views.{listed}
-use Rattle.net_rows.specs.Views.{entryList, netOf, roomOf, NetReady}
+use Rattle.net_rows.specs.Views.{lastAfter, entryList, netOf, roomOf, NetReady}
 use Rattle.net_rows.proofs.Laws.{used-is}
 use Rattle.link_direct.specs.Direct.{asked, noted, sends}
 use Rattle.link_tables.specs.Rows.{mark}
@@ -40,7 +40,7 @@ use Rattle.sys_emits.specs.Views.{sysIn}
 use Rattle.sys_emits.proofs.Laws.{not-both}
 use Rattle.sys_reacts.specs.declared.First.{First}
 use Rattle.sys_reacts.specs.declared.First.the-variants as first
-use Rattle.sys_reacts.specs.Views.{limitsOf, refusalOf, frontOf, lastAfter, following, there, Safe}
+use Rattle.sys_reacts.specs.Views.{limitsOf, refusalOf, frontOf, following, there, Safe}
 use Rattle.sys_reacts.proofs.Laws.{goes-on, refuses}
 use Rattle.sys_reacts.proofs.Deliver.{deliver-is}
 use Rattle.sys_rows.specs.Rows.{RowsLaid, Settled, Noticed, Kept}

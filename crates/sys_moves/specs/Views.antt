@@ -24,12 +24,12 @@ use Rattle.rules.specs.Link.{Durable, Command, Send, Save, acked, withTaken, ou
 use Rattle.rules.specs.System.{Actor, Sys, systems, runCommands, perform, wake, act}
 use Rattle.link_timers.specs.Views.{listed}
 use Rattle.net_rows.specs.declared.Sent.{Sent}
-use Rattle.net_rows.specs.Views.{netOf, roomOf, NetReady}
+use Rattle.net_rows.specs.Views.{lastAfter, netOf, roomOf, NetReady}
 use Rattle.link_direct.specs.Direct.{sends}
 use Rattle.link_tables.specs.Rows.{mark}
 use Rattle.link_rows.specs.Rows.{durableIn}
 use Rattle.sys_seat.specs.Seat.{Around, holding}
-use Rattle.sys_reacts.specs.Views.{limitsOf, refusalOf, lastAfter}
+use Rattle.sys_reacts.specs.Views.{limitsOf, refusalOf}
 use Rattle.sys_rows.specs.Rows.{storedIn, actorOf, RowsLaid}
 
 -- The room is the cells', the places are the rows'.

@@ -28,12 +28,12 @@ ghost use Rattle.types.specs.Capacities.{mostEntries, mostPending, mostActors, 
 ghost use Rattle.types.specs.declared.Message.the-variants.{Ack};
 ghost use Rattle.answers.specs.declared.Answer.the-variants.{Absent};
 ghost use Rattle.rules.specs.Link.{Send, withTaken};
-ghost use Rattle.net_rows.specs.Views.{NetReady};
+ghost use Rattle.net_rows.specs.Views.{lastAfter, NetReady};
 ghost use Rattle.link_direct.specs.Direct.{noted, sends};
 ghost use Rattle.link_tables.specs.Rows.{RowLaid, orders};
 ghost use Rattle.link_rows.specs.Rows.{rowSize, durableIn};
 ghost use Rattle.sys_reacts.specs.declared.First.the-variants as first;
-ghost use Rattle.sys_reacts.specs.Views.{lastAfter, there, Safe};
+ghost use Rattle.sys_reacts.specs.Views.{there, Safe};
 ghost use Rattle.sys_rows.specs.Rows.{RowsLaid, Settled, Kept};
 ghost use Rattle.sys_moves.specs.Views.{rowsOf, reacting, ackedIn, takenIn, Decided, Fine, Acted};
 

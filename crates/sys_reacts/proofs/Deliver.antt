@@ -30,9 +30,10 @@ use Rattle.sys_seat.proofs.Seats.{some-hall}
 use Rattle.sys_seat.proofs.Rooms.{sent, runs}
 use Rattle.link_timers.specs.Views.{listed}
 use Rattle.net_rows.specs.declared.Sent.{Sent}
-use Rattle.net_rows.specs.Views.{netOf, roomOf, NetReady, Changed}
+use Rattle.net_rows.specs.Views.{lastAfter, netOf, roomOf, NetReady, Changed}
 use Rattle.net_rows.proofs.Ready.{deliver-ready}
 use Rattle.net_rows.proofs.Laws.{used-is}
+use Rattle.net_rows.proofs.Last.{delivered-kind, delivered-last}
 use Rattle.link_direct.specs.Direct.{asked}
 use Rattle.answers.specs.Answers.{isDone}
 use Rattle.sys_emits.specs.declared.Emitted.{Emitted}
@@ -40,7 +41,7 @@ use Rattle.sys_emits.specs.Views.{sysIn, Ran}
 use Rattle.sys_emits.proofs.Laws.{not-both}
 use Rattle.sys_reacts.specs.declared.First.{First}
 use Rattle.sys_reacts.specs.declared.First.the-variants as first
-use Rattle.sys_reacts.specs.Views.{frontOf, lastAfter, there, entering, following, Tried, Safe}
+use Rattle.sys_reacts.specs.Views.{frontOf, there, entering, following, Tried, Safe}
 
 -- ---- a delivery leaves at most as many entries and messages
 few-left : (x : Entry) (b : Bool) → length (choose b [] (lowered x ∷ [])) ≤ 1
@@ -79,22 +80,6 @@ module _ (e : Envelope) (m : Net) where
       go : (b : Bool) → len (choose b (record { kind = m .kind; entries = m .entries; last = Got e }) (dropping e m) .entries) ≤ len (m .entries)
       go true = omega arith
       go false = cut-len _ (m .entries)
-
-  delivered-last : delivering e m .last ≡ lastAfter (m .kind) e (m .last)
-  unfolding delivering dropping choose lastAfter
-  delivered-last = go (isDuplicating (m .kind))
-    where
-      go : (b : Bool) → choose b (record { kind = m .kind; entries = m .entries; last = Got e }) (dropping e m) .last ≡ choose b (Got e) (m .last)
-      go true = refl
-      go false = refl
-
-  delivered-kind : delivering e m .kind ≡ m .kind
-  unfolding delivering dropping choose
-  delivered-kind = go (isDuplicating (m .kind))
-    where
-      go : (b : Bool) → choose b (record { kind = m .kind; entries = m .entries; last = Got e }) (dropping e m) .kind ≡ m .kind
-      go true = refl
-      go false = refl
 
 -- What goes first leaves at most as many.
 abbrev Fewer : Net → Net → Type 0

@@ -10,7 +10,7 @@ use Rattle.lists.specs.Lists.{choose}
 use Rattle.types.specs.declared.Id.{Id}
 use Rattle.types.specs.declared.Kind.{Kind}
 use Rattle.types.specs.declared.LastMessage.{LastMessage}
-use Rattle.types.specs.declared.LastMessage.the-variants.{Nothing as Nowhere, Delivered as Got}
+use Rattle.types.specs.declared.LastMessage.the-variants.{Nothing as Nowhere}
 use Rattle.types.specs.declared.Envelope.{Envelope}
 use Rattle.answers.specs.Answers.{answerNumber}
 use Rattle.types.specs.declared.Message.the-variants.{Ack}
@@ -20,7 +20,7 @@ use Rattle.link_timers.specs.Views.{listed}
 use Rattle.rules.specs.Link.{Command, Send}
 use Rattle.rules.specs.System.{Actor, Sys, withTimers, runCommands}
 use Rattle.sys_seat.specs.Seat.{Around, holding}
-use Rattle.net_rows.specs.Views.{netOf, roomOf, NetReady}
+use Rattle.net_rows.specs.Views.{lastAfter, netOf, roomOf, NetReady}
 use Rattle.answers.specs.Answers.{isDone}
 use Rattle.sys_emits.specs.declared.Emitted.{Emitted}
 use Rattle.sys_emits.specs.Views.{sysIn}
@@ -41,10 +41,6 @@ refusalOf next pending room sends =
 unfoldable pub frontOf : Id → First → List Command
 frontOf source Nothing = []
 frontOf source (Message e n) = Send source (Ack n) ∷ []
-
--- The last message after a delivery.
-unfoldable pub lastAfter : Kind → Envelope → LastMessage → LastMessage
-lastAfter k e l = choose (isDuplicating k) (Got e) l
 
 -- A message is there to be delivered: else 3.
 unfoldable pub there : Kind → Envelope → List (List ℕ) → ℕ → Bool

@@ -8,11 +8,9 @@ use mathlib.Core.List.{List, []}
 use lib.ListN.{length, take, length-map}
 use lib.Seq.{length-take-le}
 use Rattle.types.specs.Capacities.{mostEntries}
-use Rattle.lists.specs.Lists.{choose}
 use Rattle.types.specs.declared.Id.{Id}
 use Rattle.types.specs.declared.Envelope.{Envelope}
 use Rattle.types.specs.declared.Kind.{Kind}
-use Rattle.types.specs.declared.Kind.the-variants.{Ordered, UnorderedDuplicating, UnorderedNonDuplicating}
 use Rattle.types.specs.declared.Rule.{Rule}
 use Rattle.types.specs.declared.Action.{Action}
 use Rattle.types.specs.declared.Action.the-variants.{Deliver}
@@ -20,18 +18,17 @@ use Rattle.types.specs.declared.LastMessage.{LastMessage}
 use Rattle.answers.specs.declared.Answer.{Answer}
 use Rattle.answers.specs.Answers.{answerNumber, isDone}
 use Rattle.rules.specs.Outcome.{Outcome, done, refused, Caps, base}
-use Rattle.rules.specs.Network.{Net, isDuplicating, len}
+use Rattle.rules.specs.Network.{Net, len}
 use Rattle.rules.specs.System.{Sys, systems, act}
 use Rattle.rules.specs.System as rules
 use Rattle.net_cells.specs.Cells.{entryOf}
 use Rattle.net_layout.specs.Layout.{LaidOut, Readable}
 use Rattle.net_rows.specs.declared.Sent.{Sent}
-use Rattle.net_rows.specs.Views.{netOf}
+use Rattle.net_rows.specs.Views.{lastAfter, netOf}
 use Rattle.net_rows.specs.Views as rows
 use Rattle.net_network.specs.declared.Network.{Network}
 use Rattle.net_network.specs.Views.{entryList, netView, networkOf, NetLaid, NetReady}
 use Rattle.net_network.specs.Parts.{readBack}
-use Rattle.net_network.specs.Parts as network
 use Rattle.net_network.proofs.Changes.{cells-room, cells-net, cells-limits, cells-ready, readable, read-is}
 use Rattle.net_network.proofs.Ready.{viewed, laid-of}
 use Rattle.link_inner.specs.declared.Table.{Table}
@@ -39,7 +36,6 @@ use Rattle.link_inner.specs.Views.{rulesOf}
 use Rattle.sys_actor.specs.declared.Actor.{Actor}
 use Rattle.sys_actor.specs.Views.{actorView, actorAs, ActorLaid}
 use Rattle.sys_seat.specs.Seat.{Around, holding}
-use Rattle.sys_reacts.specs.Views.{lastAfter}
 use Rattle.sys_layout.specs.Views as actor
 use Rattle.sys_layout.proofs.Back.{no-rules, read-actor, read-laid}
 use Rattle.sys_moves.specs.Views.{Rows, rowsOf, actorAt, sysAt, capsOf, Fine, Stepped, lastThen}
@@ -49,16 +45,10 @@ use Rattle.sys_step.specs.declared.Touched.{Touched}
 use Rattle.sys_step.specs.Views.{acting, Touches}
 
 -- ---- the last message
-same-last : (k : Kind) (e : Envelope) (l : LastMessage) → network.lastAfter k e l ≡ lastAfter k e l
-unfolding lastAfter isDuplicating choose
-same-last Ordered e l = refl
-same-last UnorderedDuplicating e l = refl
-same-last UnorderedNonDuplicating e l = refl
-
-pub delivered-last : (k : Kind) (l : LastMessage) {a : Action} {e : Envelope} {r : LastMessage} → a ≡ Deliver e → r ≡ network.lastAfter k e l
+pub delivered-last : (k : Kind) (l : LastMessage) {a : Action} {e : Envelope} {r : LastMessage} → a ≡ Deliver e → r ≡ lastAfter k e l
     → r ≡ lastThen k a l
 unfolding lastThen
-delivered-last k l {a} {e} {r} d f = f ∙ same-last k e l ∙ rw d
+delivered-last k l {a} {e} {r} d f = f ∙ rw d
 
 -- ---- the cells, laid back
 module _ {kind : Kind} {used n : ℕ} {x : Rows} (fine : Fine kind used n x) (last : LastMessage) where

@@ -8,7 +8,7 @@ use lib.ListN.{length, getD, set, length-set, length-map}
 use lib.Seq.{set-getD}
 use Rattle.types.specs.Capacities.{mostActors}
 use Rattle.lists.specs.Lists.{pad}
-use Rattle.lists.proofs.Places.{set-pad}
+use Rattle.lists.proofs.Places.{set-pad, map-set}
 use Rattle.types.specs.declared.Id.{Id}
 use Rattle.types.specs.declared.Rule.{Rule}
 use Rattle.rules.specs.System as rules
@@ -26,11 +26,6 @@ use Rattle.sys_system.proofs.Laws.{counted, actor-view}
 use Rattle.sys_answered.specs.Views.{Ready}
 
 -- ---- one element of a list made of another
-map-set : {A B : Type 0} (g : A → B) (l : List A) (i : ℕ) (a : A) → map g (set l i a) ≡ set (map g l) i (g a)
-map-set g [] i a = refl
-map-set g (x ∷ l) zero a = refl
-map-set {B = B} g (x ∷ l) (suc i) a = ap (λ (m : List B). g x ∷ m) (map-set g l i a)
-
 map-kept : {A B : Type 0} (g : A → B) (l : List A) (i : ℕ) (a d : A) → g a ≡ g (getD l i d) → map g (set l i a) ≡ map g l
 map-kept g [] i a d e = refl
 map-kept {B = B} g (x ∷ l) zero a d e = ap (λ (b : B). b ∷ map g l) e
@@ -82,7 +77,7 @@ module _ (s : System) (r : Ready s) where
         ap (λ (y : System). set (y .actors) (i .0) b) (r .laid)
         ∙ ap (set (pad mostActors zeroActor (map actorAs l)) (i .0)) own
         ∙ set-pad mostActors (map actorAs l) (i .0) (actorAs x) zeroActor (rw (length-map l actorAs) inside)
-        ∙ ap (pad mostActors zeroActor) (sym (map-set actorAs l (i .0) x)) in
+        ∙ ap (pad mostActors zeroActor) (map-set actorAs (i .0) x l) in
         let t : s .tables ≡ pad mostActors zeroTable (map tableFor (set l (i .0) x)) =
         ap (λ (y : System). y .tables) (r .laid) ∙ ap (pad mostActors zeroTable)
         (sym (map-kept tableFor l (i .0) x (rules.unstarted []) (ap tableAs same-rules))) in

@@ -8,6 +8,7 @@ use link_timers::Timers;
 use net_rows::Sent;
 use rows::copy_rows;
 use sys_moves::by_rule;
+use sys_rows::fresh_row;
 use sys_rows::put_marks;
 use types::Id;
 use types::Kind;
@@ -42,8 +43,7 @@ fn load(
     let crashed = live[5];
     let timers = live[6];
     if kept[5] == 0 {
-        *live = [0u64; ROW];
-        live[0] = 1;
+        *live = fresh_row();
         live[5] = crashed;
         put_marks(live, timers, 0);
         return;

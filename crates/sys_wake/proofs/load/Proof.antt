@@ -15,11 +15,11 @@ element-copy-out-timers c = search needs
 element-copy-out-if1 : tie.Need-element-copy-out-if1
 element-copy-out-if1 c = search needs
 
+fresh-row-requires : tie.Need-fresh-row-requires
+fresh-row-requires c κs = search needs
+
 element-write-live : tie.Need-element-write-live
 element-write-live c = search needs
-
-element-write-live-2 : tie.Need-element-write-live-2
-element-write-live-2 c = search needs
 
 put-marks-requires : tie.Need-put-marks-requires
 put-marks-requires c κs = search needs
@@ -28,11 +28,11 @@ returns : tie.Need-returns
 returns c =
     let s = c .before .before .before .before .before .before .before in
     let a = s .args in
-    rw (c .put-marks .ensures)
+    rw (c .put-marks .ensures, c .before .before .fresh-row .ensures)
     (loaded-fresh (a .live .now) (a .kept .now) (a .pend .now) (a .stored .now) (s .pre .0) (s .pre .1) (c .before .before .before .if1 .taken))
 
-element-write-live-3 : tie.Need-element-write-live-3
-element-write-live-3 c = search needs
+element-write-live-2 : tie.Need-element-write-live-2
+element-write-live-2 c = search needs
 
 put-marks-requires-2 : tie.Need-put-marks-requires-2
 put-marks-requires-2 c κs = search needs
@@ -60,11 +60,11 @@ load-spec =
     element-copy-out-crashed
     element-copy-out-timers
     element-copy-out-if1
+    fresh-row-requires
     element-write-live
-    element-write-live-2
     put-marks-requires
     returns
-    element-write-live-3
+    element-write-live-2
     put-marks-requires-2
     element-copy-out-copy-rows
     copy-rows-requires
