@@ -1,14 +1,14 @@
 -- The test of a table, part by part. It is a conjunction, so that the code may test its parts one by one.
 -- Assumes nothing.
 use Prim.Native.Nat.{ℕ, _≤_}
-use mathlib.Core.Path.{_≡_, refl, sym, ap, _∙_}
+use mathlib.Core.Path.{_≡_, refl, ap, _∙_}
 use mathlib.Core.Bool.{Bool, true, false, _&&_, _||_, false≢true}
 use mathlib.Core.List.{List, [], _∷_}
 use lib.ListN.{length, take, drop, replicate}
 use lib.Dec.{leb, eqb}
 use borrow.Author.Tests.{leb-true, eqb-true, not-true}
 use Rattle.lists.specs.Lists.{choose, all, every}
-use Rattle.lists.proofs.Members.{and-both, every-cons}
+use Rattle.lists.proofs.Members.{every-cons}
 use Rattle.lists.proofs.Walks.{take-whole, all-map, all-same, every-append}
 use Rattle.types.specs.Capacities.{mostCommands, mostRules}
 use Rattle.types.specs.declared.RuleCommand.{RuleCommand}
@@ -55,10 +55,6 @@ pub ranges-used : (r : Rule) → ranges r ≡ true → r .used ≤ mostCommands
 unfolding ranges
 ranges-used r e =
     let a = every-cons _ _ e in let b = every-cons _ _ (a .1) in let c = every-cons _ _ (b .1) in leb-true _ _ (every-cons _ _ (c .1) .0)
-
--- A rule of a sound table has no more commands than places.
-pub rule-used : (r : Rule) → ruleOk r ≡ true → r .used ≤ mostCommands
-rule-used r e = ranges-used r (every-cons _ _ (sym (rule-parts r) ∙ e) .0)
 
 -- ---- the places of a table
 pub rules-used : (t : Table) → all (rulePasses false) (rulesOf t) ≡ all ruleOk (rulesOf t)

@@ -54,10 +54,6 @@ first-within f z lo hi (y ∷ ys) a e = by-test (first-within f z (suc y) hi ys 
     by-test rest true q = let same : y ≡ z = cc in omega arith
     by-test rest false q = rest q
 
--- What is found is at most Network.
-pub first-small : (x f z : ℕ) → firstFrom f (listed x) ≡ Timer z → z < bits
-first-small x f z e = first-within f z 0 bits (listed x) (listed-ascends x) e
-
 -- A timer below what was found is no part of the rest.
 passed : (y : ℕ) (ys : List ℕ) (o : Found) → ((z : ℕ) → o ≡ Timer z → y ≤ z) → andOn o (λ g. restFrom g ys)
     ≡ andOn o (λ g. restFrom g (y ∷ ys))

@@ -1,11 +1,11 @@
 -- The test has six parts. A network that passes is laid out: a place that counts as zero is the zero entry, so the unused ones are all that entry.
 -- Assumes nothing.
-use Prim.Native.Nat.{ℕ, zero, suc, _-_, _≤_}
+use Prim.Native.Nat.{ℕ, zero, suc, _-_}
 use native.Mathlib.Omega.{arith}
 use mathlib.Core.Path.{_≡_, refl, sym, ap, _∙_}
 use mathlib.Core.Bool.{Bool, true, and-assoc}
 use mathlib.Core.List.{List, [], _∷_, _++_}
-use lib.ListN.{length, take, drop, replicate, length-take, length-drop, take-append-drop}
+use lib.ListN.{length, drop, replicate, length-take, length-drop, take-append-drop}
 use lib.Seq.{slice, take-all, drop-at}
 use lib.Dec.{leb, eqb}
 use borrow.Author.Tests.{eqb-true, leb-true, le-leb}
@@ -17,10 +17,9 @@ use Rattle.types.specs.declared.Entry.{Entry}
 use Rattle.types.specs.Capacities.{mostEntries}
 use Rattle.types.specs.Order.{same, cmpEnvelope}
 use Rattle.types.proofs.Laws.{same-is}
-use Rattle.rules.specs.Outcome.{base}
 use Rattle.rules.specs.WellFormed.{inOrder, lastOk, netOk}
 use Rattle.net_network.specs.declared.Network.{Network}
-use Rattle.net_network.specs.Views.{zeroEntry, entryList, netView, NetLaid}
+use Rattle.net_network.specs.Views.{zeroEntry, entryList, NetLaid}
 use Rattle.net_formed.specs.declared.Test.the-variants.{Unused, Source, Count}
 use Rattle.net_formed.specs.Formed.{zeroed, passOf, laidOut, netFormed}
 
@@ -66,10 +65,6 @@ module _ (n : Network) (room : length (n .entries) ≡ mostEntries) where
       let v : length (entryList n) ≡ n .used = laid-length mostEntries zeroEntry (n .entries) (n .used) (h .fit) (h .rest) in
       let d : unused ≡ replicate (mostEntries - length (entryList n)) zeroEntry = ap (drop (n .used)) (h .rest) ∙ drop-at (entryList n) _ (n .used) v in
       rw (le-leb (n .used) mostEntries (h .fit), d) (zeros (mostEntries - length (entryList n)))
-
-  pub formed-is : NetLaid n → (k : ℕ) → netFormed n k ≡ netOk (base .room) k (netView n)
-  unfolding netFormed
-  formed-is h k = rw (laid-passes h)
 
   -- ---- the six parts, as the code asks them
   abbrev asked : ℕ → List Bool

@@ -3,11 +3,10 @@
 -- Assumes nothing.
 use Prim.Native.Nat.{ℕ, _-_, _≤_}
 use native.Mathlib.Omega.{arith}
-use mathlib.Core.Path.{_≡_, refl, sym, ap, _∙_}
+use mathlib.Core.Path.{_≡_, refl, sym, ap}
 use mathlib.Core.Bool.{Bool, true, false}
-use mathlib.Core.List.{List}
-use lib.ListN.{length, take, length-map}
-use lib.Seq.{take-append-seam, length-take-le}
+use lib.ListN.{length, take}
+use lib.Seq.{take-append-seam}
 use lib.Dec.{leb}
 use borrow.Author.Tests.{eqb-true, leb-true, le-leb}
 use Rattle.lists.specs.Lists.{choose, all, chain, pad}
@@ -17,7 +16,6 @@ use Rattle.types.specs.declared.Envelope.{Envelope}
 use Rattle.types.specs.declared.Entry.{Entry}
 use Rattle.types.specs.declared.Kind.{Kind}
 use Rattle.types.specs.declared.Kind.the-variants.{Ordered, UnorderedDuplicating, UnorderedNonDuplicating}
-use Rattle.types.specs.declared.LastMessage.{LastMessage}
 use Rattle.types.specs.declared.LastMessage.the-variants.{Delivered}
 use Rattle.types.specs.Capacities.{mostEntries}
 use Rattle.types.specs.Order.{same}
@@ -25,8 +23,6 @@ use Rattle.rules.specs.Outcome.{done, guard, base}
 use Rattle.rules.specs.Network.{Net, sending, fits, send, fewer, remove, dropping, delivering, isDuplicating, onDeliver, onDrop}
 use Rattle.rules.specs.WellFormed.{countOk, inOrder, netOk}
 use Rattle.rules.proofs.FormedNetwork.{net-is, fewer-length}
-use Rattle.net_cells.specs.Cells.{entryOf}
-use Rattle.net_rows.specs.Views.{netOf}
 use Rattle.net_rows.specs.Views as rows
 use Rattle.net_rows.proofs.Ready as place
 use Rattle.net_network.specs.declared.Network.{Network}
@@ -113,11 +109,3 @@ module _ (n : Network) (r : NetReady n) (e : Envelope) where
   pub drop-ready : NetReady (sentOf n (onDrop e (netView n)) .network)
   unfolding onDrop
   drop-ready = kept _ 3 (dropping e (netView n)) (λ _. drops (netView n) (orderly-of n r) e)
-
--- ---- the struct of a network in place
-module _ {k : Kind} {cs : List (List ℕ)} {used n : ℕ} (r : rows.NetReady k cs used n) (room : length cs ≡ mostEntries) where
-  pub read-ready : (last : LastMessage) → NetReady (networkOf (netOf k last cs used))
-  read-ready last =
-      let v : length (rows.entryList cs used) ≡ used = length-map (take used cs) entryOf ∙ length-take-le used cs (r .laid .fit) in
-      let f = r .laid .fit in
-      ready-of (netOf k last cs used) (record { few = omega arith; order = r .order; counts = r .laid .counts })

@@ -10,7 +10,7 @@ use lib.Dec.{ltb, eqb}
 use lib.IntN.{ℤ, pos, negsuc}
 use lib.Signed.{ltZ}
 use lib.ListN.{length}
-use borrow.Author.Tests.{ltb-true, ltb-false, lt-ltb, le-ltb, eq-eqb, ne-eqb, eqb-false}
+use borrow.Author.Tests.{ltb-true, eq-eqb, ne-eqb, eqb-false}
 use borrow.Rule.Slice.PartMut.{midOf, putMid, same-len-mid, mid-len}
 use Rattle.lists.specs.Lists.{choose}
 use Rattle.io.specs.Counts.{clamped}
@@ -18,8 +18,7 @@ use Rattle.libc.specs.Io.{Moved}
 use Rattle.replay_input.specs.declared.Gave.{Gave}
 use Rattle.replay_input.specs.declared.Gave.the-variants.{Failed, Ended, More}
 use Rattle.replay_input.specs.declared.Input.{Input}
-use Rattle.replay_input.specs.declared.Input.the-variants.{Broken, Whole}
-use Rattle.replay_input.specs.declared.Next.{Next}
+use Rattle.replay_input.specs.declared.Input.the-variants.{Whole}
 use Rattle.replay_input.specs.declared.Next.the-variants.{From, Over}
 use Rattle.replay_input.specs.declared.Source.the-variants as source
 use Rattle.replay_input.specs.Views.{gaveOf, Within, nextOf, Last, sourceOf}

@@ -26,9 +26,8 @@ use Rattle.rules.specs.Program.{badWord, line, replay}
 use Rattle.script_check.specs.declared.Layout.{Layout}
 use Rattle.script_check.specs.declared.Layout.the-variants as layout
 use Rattle.script_check.specs.Views.{layoutOf}
-use Rattle.script_check.proofs.Whole.{Parts, parts-of}
+use Rattle.script_check.proofs.Whole.{parts-of}
 use Rattle.replay_lines.proofs.Laws.{length-line}
-use Rattle.replay_script.specs.Views.{Told}
 use Rattle.replay_script.proofs.Laws.{good-longest, told-bad}
 
 -- ---- the place of a bad record lies in the script

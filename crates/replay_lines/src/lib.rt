@@ -6,7 +6,6 @@ ghost use mathlib.Core.Path.{_≡_};
 ghost use mathlib.Core.List.{[], _∷_};
 ghost use Prim.Native.Nat.{_+_, _≤_};
 ghost use lib.ListN.{length};
-ghost use Rattle.answers.specs.Answers.{answerNumber};
 ghost use Rattle.rules.specs.Program.{decimal, spaced, line, answerLine, badWord, startWord, doneWord};
 ghost use Rattle.replay_lines.specs.Pieces.{put, Fits, Room, Piece};
 

@@ -28,7 +28,6 @@ use Rattle.rules.proofs.Answers.{act-answers, formed-step, stepNumbers, startNu
 use Rattle.rules.proofs.Laws.{Holds}
 use Rattle.replay_decimals.proofs.Laws.{length-small, length-decimal}
 use Rattle.net_network.specs.Views.{netView, networkOf}
-use Rattle.net_network.proofs.Ready.{viewed}
 use Rattle.script_check.proofs.Actions.{Coming, last, next, coming, span}
 use Rattle.replay_lines.proofs.Laws.{length-line}
 use Rattle.replay_script.specs.Views.{longest}

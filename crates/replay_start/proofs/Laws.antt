@@ -14,7 +14,7 @@ use Rattle.types.specs.Capacities.{mostActors, mostEntries, mostRules}
 use Rattle.types.specs.declared.Envelope.{Envelope}
 use Rattle.types.specs.declared.Format.{Format}
 use Rattle.types.specs.declared.Rule.{Rule}
-use Rattle.layout.specs.Read.{read, badAt, Reader, one, onward, joining, repeat}
+use Rattle.layout.specs.Read.{read, Reader, one, onward, joining, repeat}
 use Rattle.rules.specs.Outcome.{guard, base}
 use Rattle.rules.specs.System.{systems}
 use Rattle.rules.specs.Start.{blank, start}

@@ -19,7 +19,6 @@ use Rattle.script_opening.specs.Views.{openingRead}
 use Rattle.script_opening.proofs.Readings.{told-found}
 use Rattle.script_opening.proofs.Lists.{opening-tells}
 use Rattle.script_opening.proofs.Kept.{kept-opening, both}
-use Rattle.script_check.specs.declared.Layout.{Layout}
 use Rattle.script_check.specs.declared.Layout.the-variants as layout
 use Rattle.script_check.specs.Views.{layoutOf}
 

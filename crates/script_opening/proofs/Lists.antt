@@ -2,17 +2,17 @@
 -- Assumes nothing.
 use Prim.Native.Nat.{ℕ, zero, suc}
 use mathlib.Core.Bool.{true, false}
-use mathlib.Core.Path.{_≡_, refl, sym, ap, ap₂, _∙_}
+use mathlib.Core.Path.{_≡_, refl, sym, ap, _∙_}
 use mathlib.Core.List.{List, [], _∷_, map}
 use lib.ListN.{length, drop}
 use Rattle.lists.specs.Lists.{pad}
-use Rattle.types.specs.Capacities.{mostActors, mostRules}
+use Rattle.types.specs.Capacities.{mostActors}
 use Rattle.types.specs.declared.Format.{Format}
 use Rattle.types.specs.declared.Rule.{Rule}
 use Rattle.layout.specs.Read.{Reading, read, badAt, Reader, onward, joining, repeat}
-use Rattle.rules.specs.Script.{Opening, tableFrom}
+use Rattle.rules.specs.Script.{tableFrom}
 use Rattle.link_inner.specs.declared.Table.{Table}
-use Rattle.link_inner.specs.Views.{zeroRule, tableAs, zeroTable}
+use Rattle.link_inner.specs.Views.{tableAs, zeroTable}
 use Rattle.script_opening.specs.declared.TableRead.{TableRead}
 use Rattle.script_opening.specs.declared.TablesRead.{TablesRead}
 use Rattle.script_opening.specs.declared.EnvelopesRead.{EnvelopesRead}

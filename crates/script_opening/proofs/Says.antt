@@ -11,7 +11,6 @@ use Rattle.types.specs.declared.Envelope.{Envelope}
 use Rattle.types.specs.declared.Rule.{Rule}
 use Rattle.layout.specs.Read.{Reading, read, badAt}
 use Rattle.rules.specs.Script.{Opening}
-use Rattle.link_inner.specs.declared.Table.{Table}
 use Rattle.link_inner.specs.Views.{rulesOf}
 use Rattle.script_places.specs.Says.{said, readingSays}
 use Rattle.script_places.proofs.Says.{Both, both}

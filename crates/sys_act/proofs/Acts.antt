@@ -8,7 +8,7 @@ use mathlib.Core.Bool.{Bool, true, false, _||_}
 use mathlib.Core.List.{List}
 use lib.ListN.{length}
 use lib.Dec.{ltb}
-use borrow.Author.Tests.{ltb-false, lt-ltb, le-ltb}
+use borrow.Author.Tests.{lt-ltb, le-ltb}
 use Rattle.lists.specs.Lists.{choose}
 use Rattle.types.specs.declared.Id.{Id}
 use Rattle.types.specs.declared.Kind.{Kind}
@@ -22,11 +22,10 @@ use Rattle.answers.specs.declared.Answer.{Answer}
 use Rattle.answers.specs.declared.Answer.the-variants.{Done, Ignored, OutOfRange}
 use Rattle.answers.specs.Answers.{answerOf, answerNumber, isDone}
 use Rattle.rules.specs.Outcome.{Outcome, done, refused, bind, guard}
-use Rattle.rules.specs.Timers.{noTimers}
 use Rattle.rules.specs.Network.{Net, isDuplicating, present, dropping, onDrop}
-use Rattle.rules.specs.System.{Actor, Sys, systems, withMark, act}
+use Rattle.rules.specs.System.{Actor, Sys, systems, act}
 use Rattle.net_rows.specs.declared.Sent.{Sent}
-use Rattle.net_rows.specs.Views.{netOf, NetReady, Changed}
+use Rattle.net_rows.specs.Views.{netOf, Changed}
 use Rattle.net_rows.proofs.Ready.{drop-ready}
 use Rattle.sys_seat.specs.Seat.{Around, holding}
 use Rattle.sys_seat.proofs.Actions.{seat-crash, seat-drop, absent-timeout, absent-crash, absent-recover, absent-deliver}

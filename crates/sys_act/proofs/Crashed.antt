@@ -1,21 +1,20 @@
 -- A crash in the rows: the mark is set and the timers are gone, all else is as it was.
 -- Assumes nothing.
-use Prim.Native.Nat.{ℕ, _+_, _≤_, _<_}
+use Prim.Native.Nat.{ℕ, _+_}
 use native.Mathlib.Omega.{arith}
-use mathlib.Core.Path.{_≡_, refl, sym, ap, _∙_}
-use mathlib.Core.Bool.{Bool, true}
+use mathlib.Core.Path.{_≡_, ap, _∙_}
+use mathlib.Core.Bool.{true}
 use mathlib.Core.List.{List}
-use lib.ListN.{length, drop, getD, set, length-set}
+use lib.ListN.{length, getD, set, length-set}
 use lib.Seq.{getD-set-same, getD-set-other}
 use Rattle.types.specs.declared.Rule.{Rule}
 use Rattle.rules.specs.Timers.{noTimers}
-use Rattle.rules.specs.Link.{Durable}
-use Rattle.rules.specs.System.{Actor, withMark}
+use Rattle.rules.specs.System.{withMark}
 use Rattle.link_timers.specs.Views.{listed}
 use Rattle.link_timers.proofs.Listed.{listed-new}
 use Rattle.link_tables.specs.Rows.{mark}
 use Rattle.link_rows.specs.Rows.{durableIn}
-use Rattle.sys_rows.specs.Rows.{storedIn, actorOf, RowsLaid, TailLaid}
+use Rattle.sys_rows.specs.Rows.{storedIn, actorOf, RowsLaid}
 use Rattle.sys_rows.proofs.Laws.{aside, aside-head, tail-at, tail-marks}
 
 module _ (w : List ℕ) (p : List (List ℕ)) (laid : RowsLaid w p) where

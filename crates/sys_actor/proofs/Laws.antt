@@ -1,29 +1,25 @@
 -- What the tests of an actor say: one that passes is laid out and well formed beside a sound table, and one that is blank is the zero actor.
 -- Assumes nothing.
-use Prim.Native.Nat.{ℕ, _≤_, _<_, _^_}
-use native.Mathlib.Omega.{arith}
+use Prim.Native.Nat.{ℕ, _≤_, _<_}
 use mathlib.Core.Path.{_≡_, refl, sym, ap, _∙_}
-use mathlib.Core.Bool.{Bool, true, false, not, _||_, true≢false, false≢true}
+use mathlib.Core.Bool.{Bool, true, false, _||_, true≢false, false≢true}
 use mathlib.Core.Option.{Option, none, some}
-use mathlib.Core.List.{List, [], _∷_}
+use mathlib.Core.List.{List, []}
 use lib.ListN.{length, take}
-use lib.Dec.{leb, ltb, eqb, lit≤}
+use lib.Dec.{leb, lit≤}
 use borrow.Author.Tests.{leb-true, le-leb, eqb-true}
 use Rattle.types.specs.Capacities.{mostPending, mostActors, lastState, network}
-use Rattle.lists.specs.Lists.{choose, all, chain, every}
+use Rattle.lists.specs.Lists.{choose, all, every}
 use Rattle.lists.proofs.Members.{every-cons, every-make, every-nil, all-in, all-make, not-true}
 use Rattle.lists.proofs.Chains.{chain-is, is-chain}
-use Rattle.types.specs.declared.Number.{Number}
-use Rattle.types.specs.declared.Pending.{Pending}
 use Rattle.types.specs.declared.Rule.{Rule}
 use Rattle.types.specs.declared.Storage.{Storage}
 use Rattle.types.specs.declared.Storage.the-variants.{Nothing, Value}
 use Rattle.rules.specs.Outcome.{base}
 use Rattle.rules.specs.Link as rules
 use Rattle.rules.specs.System as system
-use Rattle.rules.specs.WellFormed.{durableOk, storedOk, sound, actorOk}
+use Rattle.rules.specs.WellFormed.{sound, actorOk}
 use Rattle.rules.proofs.Timers.{TimerSet}
-use Rattle.link_timers.specs.Views.{listed, timersOf}
 use Rattle.link_timers.proofs.Listed.{timers-listed, listed-timers, listed-timers-of}
 use Rattle.link_durable.specs.declared.Durable.{Durable}
 use Rattle.link_durable.specs.declared.Stored.{Stored}
@@ -42,7 +38,6 @@ use Rattle.link_durable.specs.Views.{
 }
 use Rattle.link_durable.proofs.Containers.{DurableLaid, durable-is, durable-fits, durable-back, durable-same}
 use Rattle.link_durable.proofs.Kept.{fine-laid, fine-formed, stored-laid, stored-formed, durable-kept, stored-kept}
-use Rattle.link_durable.specs.Views.{linkView, linkAs}
 use Rattle.sys_actor.specs.declared.Actor.{Actor}
 use Rattle.sys_actor.specs.Views.{actorView, actorAs, ActorLaid, actorLaid, quiet, actorFine, zeroActor, zeroed, blankActor}
 

@@ -2,7 +2,6 @@
 -- Assumes nothing.
 use mathlib.Core.Path.{_≡_}
 use mathlib.Core.Bool.{true}
-use Rattle.answers.specs.Answers.{answerOf}
 use Rattle.rules.specs.Outcome.{Outcome, base, handedBack}
 use Rattle.rules.specs.System.{Sys}
 use Rattle.rules.specs.WellFormed.{wellFormed}

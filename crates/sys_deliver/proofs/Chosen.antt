@@ -2,7 +2,7 @@
 -- Assumes nothing.
 use Prim.Native.Nat.{ℕ, _+_, _≤_, _<_}
 use native.Mathlib.Omega.{arith}
-use mathlib.Core.Path.{_≡_, refl, sym, ap, _∙_, subst}
+use mathlib.Core.Path.{_≡_, refl, sym, ap, _∙_}
 use mathlib.Core.Bool.{Bool, true, false, not, _||_}
 use mathlib.Core.List.{List, []}
 use lib.ListN.{length, getD}
@@ -21,8 +21,8 @@ use Rattle.types.specs.declared.Message.the-variants.{Deliver, Ack}
 use Rattle.types.specs.declared.Action.the-variants as action
 use Rattle.types.specs.declared.LastMessage.{LastMessage}
 use Rattle.answers.specs.declared.Answer.the-variants.{Ignored, OutOfRange}
-use Rattle.rules.specs.Outcome.{Outcome, done, refused, bind, guard}
-use Rattle.rules.specs.Inner.{Reply, reply, ignored}
+use Rattle.rules.specs.Outcome.{Outcome, guard}
+use Rattle.rules.specs.Inner.{reply, ignored}
 use Rattle.rules.specs.Link.{lastTaken}
 use Rattle.rules.specs.System.{Sys, systems, act}
 use Rattle.net_rows.specs.declared.Sent.{Sent}

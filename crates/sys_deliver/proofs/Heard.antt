@@ -2,16 +2,14 @@
 -- Assumes nothing.
 use Prim.Native.Nat.{ℕ, zero, suc, _+_, _≤_, _<_}
 use native.Mathlib.Omega.{arith}
-use native.Mathlib.Decide.{decLt}
 use mathlib.Core.Path.{_≡_, refl, sym, ap, _∙_}
-use mathlib.Core.Bool.{Bool, true, false, not, _||_}
+use mathlib.Core.Bool.{Bool, true, false, _||_}
 use mathlib.Core.List.{List, [], _∷_, _++_, map}
-use lib.ListN.{length, take, drop, getD}
+use lib.ListN.{take, drop, getD}
 use lib.Seq.{getD-drop}
-use lib.Dec.{leb, ltb}
-use borrow.Author.Tests.{le-leb, lt-leb, lt-ltb}
+use lib.Dec.{leb}
 use Rattle.lists.specs.Lists.{choose}
-use Rattle.types.specs.Capacities.{mostActors, mostPending, lastState}
+use Rattle.types.specs.Capacities.{mostActors, mostPending}
 use Rattle.types.specs.declared.Id.{Id}
 use Rattle.types.specs.declared.Number.{Number}
 use Rattle.types.specs.declared.Payload.{Payload}
@@ -20,18 +18,17 @@ use Rattle.types.specs.declared.Rule.{Rule}
 use Rattle.types.specs.declared.Envelope.{Envelope}
 use Rattle.types.specs.declared.Message.{Message}
 use Rattle.types.specs.declared.Message.the-variants.{Deliver, Ack}
-use Rattle.types.specs.declared.InnerCommand.{InnerCommand}
 use Rattle.types.specs.declared.LastMessage.{LastMessage}
 use Rattle.rules.specs.Outcome.{Outcome, done, refused, bind}
 use Rattle.rules.specs.Inner.{Reply, reply, ignored}
 use Rattle.rules.specs.Network.{Net, onDeliver}
 use Rattle.rules.specs.Link.{Durable, Did, Output, Link, Send, Save, untaken, lastOf, lastTaken, acked, withTaken, acking, ackedBy, takenBy, handing, output}
 use Rattle.rules.specs.Link.{onMsg}
-use Rattle.rules.specs.System.{Actor, Sys, withLink, runCommands}
+use Rattle.rules.specs.System.{Sys, withLink, runCommands}
 use Rattle.net_rows.specs.Views.{netOf, roomOf}
 use Rattle.link_rows.specs.Rows.{numberIn, durableIn}
 use Rattle.sys_seat.specs.Seat.{Around, holding}
-use Rattle.sys_seat.proofs.Actions.{bind-bind, bind-same}
+use Rattle.sys_seat.proofs.Actions.{bind-same}
 use Rattle.sys_reacts.specs.Views.{limitsOf}
 use Rattle.sys_rows.specs.Rows.{actorOf, RowsLaid}
 use Rattle.sys_rows.proofs.Laws.{tail-at}

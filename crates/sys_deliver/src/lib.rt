@@ -18,15 +18,11 @@ use types::Number;
 use types::Payload;
 ghost use mathlib.Core.Path.{_≡_};
 ghost use Prim.Native.Nat.{ℕ, _≤_, _<_};
-ghost use lib.ListN.{length, drop, getD};
 ghost use Rattle.types.specs.Capacities.{mostActors, lastState};
 ghost use Rattle.types.specs.declared.Action.the-variants as action;
 ghost use Rattle.types.specs.declared.Message.the-variants as message;
-ghost use Rattle.rules.specs.Link.{lastTaken};
 ghost use Rattle.net_rows.specs.Views.{lastAfter};
 ghost use Rattle.link_tables.specs.Rows.{TableLaid, rulesIn};
-ghost use Rattle.link_rows.specs.Rows.{rowSize, durableIn};
-ghost use Rattle.sys_rows.specs.Rows.{TailLaid};
 ghost use Rattle.sys_moves.specs.Views.{rowsOf, Fine, Acted, passedBy, Ended, Stepped};
 ghost use Rattle.sys_deliver.specs.Views.{handedTo, takerOf};
 

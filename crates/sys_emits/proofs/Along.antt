@@ -1,9 +1,9 @@
 -- A run of commands, on the way: what is to be run from the entry is what is to be run of the rest from here.
 -- Assumes nothing.
-use Prim.Native.Nat.{ℕ, zero, suc, _+_, _-_, _≤_, _<_}
+use Prim.Native.Nat.{ℕ, zero, suc, _+_, _-_, _≤_}
 use native.Mathlib.Omega.{arith}
 use mathlib.Core.Path.{_≡_, refl, sym, ap, _∙_}
-use mathlib.Core.Bool.{Bool, true, false}
+use mathlib.Core.Bool.{true, false}
 use mathlib.Core.List.{List, [], _∷_}
 use lib.ListN.{length, take}
 use Rattle.types.specs.Capacities.{mostCopies}
@@ -13,7 +13,7 @@ use Rattle.answers.specs.declared.Answer.the-variants.{Done}
 use Rattle.types.specs.declared.LastMessage.{LastMessage}
 use Rattle.types.specs.declared.InnerCommand.{InnerCommand}
 use Rattle.types.specs.declared.InnerCommand.the-variants as inner
-use Rattle.rules.specs.Outcome.{Outcome, done, refused, Room}
+use Rattle.rules.specs.Outcome.{Room}
 use Rattle.rules.specs.Link.{Command}
 use Rattle.rules.specs.System.{Actor, runCommands}
 use Rattle.sys_seat.specs.Seat.{Around}

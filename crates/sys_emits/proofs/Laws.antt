@@ -1,18 +1,16 @@
 -- One command of a run, on cells and a word of timers.
 -- Assumes nothing.
-use Prim.Native.Nat.{ℕ, zero, suc, _+_, _-_, _≤_, _<_}
+use Prim.Native.Nat.{ℕ, zero, suc, _+_, _-_, _<_}
 use native.Mathlib.Omega.{arith}
 use native.Mathlib.Numerals.{add-one, unary-clauses}
 use mathlib.Core.Path.{_≡_, refl, sym, ap, _∙_}
 use mathlib.Core.Bool.{Bool, true, false}
 use mathlib.Core.List.{List, [], _∷_}
-use lib.ListN.{length, take}
+use lib.ListN.{take}
 use Rattle.types.specs.declared.Id.{Id}
 use Rattle.types.specs.declared.Payload.{Payload}
-use Rattle.types.specs.declared.Message.{Message}
 use Rattle.types.specs.declared.Envelope.{Envelope}
 use Rattle.types.specs.declared.Kind.{Kind}
-use Rattle.answers.specs.declared.Answer.{Answer}
 use Rattle.answers.specs.declared.Answer.the-variants.{Done, NetworkFull}
 use Rattle.types.specs.declared.LastMessage.{LastMessage}
 use Rattle.types.specs.declared.LastMessage.the-variants.{Nothing}
@@ -26,7 +24,7 @@ use Rattle.rules.specs.Network.{Net, send, sending, fits}
 use Rattle.rules.specs.Link.{Command, Set, Cancel, Send}
 use Rattle.rules.specs.System.{Actor, Sys, withTimers, withNet, runCommands}
 use Rattle.sys_seat.specs.Seat.{Around, holding}
-use Rattle.sys_seat.proofs.Seats.{run-set, run-cancel, run-send}
+use Rattle.sys_seat.proofs.Seats.{run-set, run-cancel}
 use Rattle.link_timers.specs.Views.{listed}
 use Rattle.net_rows.specs.declared.Sent.{Sent}
 use Rattle.net_rows.proofs.Ready.{send-ready}

@@ -2,7 +2,7 @@
 -- Assumes nothing.
 use Prim.Native.Nat.{ℕ}
 use mathlib.Core.Path.{_≡_, refl, _∙_}
-use mathlib.Core.Bool.{true, false}
+use mathlib.Core.Bool.{false}
 use mathlib.Core.List.{List}
 use lib.ListN.{length}
 use Rattle.types.specs.declared.Id.{Id}
@@ -16,7 +16,7 @@ use Rattle.rules.specs.System.{Sys}
 use Rattle.net_rows.specs.declared.Sent.{Sent}
 use Rattle.sys_seat.specs.Seat.{Around}
 use Rattle.sys_emits.proofs.Laws.{not-both}
-use Rattle.sys_moves.specs.Views.{Rows, sysAt, Fine, Acted, Ended}
+use Rattle.sys_moves.specs.Views.{Rows, Fine, Acted, Ended}
 
 module _ (me : Id) (count : ℕ) (rs : List Rule) (o : Around me → LastMessage → Outcome Sys) (after : LastMessage → LastMessage) (kind : Kind)
     (used n : ℕ)

@@ -1,7 +1,6 @@
 -- No second answer fits what a whole action or a start promises: any one system that holds the rows, of so many actors, shows it.
 -- Assumes nothing.
 use Prim.Native.Nat.{ℕ}
-use native.Mathlib.Omega.{arith}
 use mathlib.Core.Path.{_≡_, refl, sym, ap, _∙_}
 use mathlib.Core.Bool.{Bool, true, false}
 use mathlib.Core.List.{List}
@@ -17,18 +16,16 @@ use Rattle.answers.specs.Answers.{answerNumber, isDone}
 use Rattle.answers.proofs.Numbers.{number-inj}
 use Rattle.rules.specs.Outcome.{Outcome, done, refused}
 use Rattle.rules.specs.Network.{Net, len}
-use Rattle.rules.specs.System.{Actor, Sys, actor}
+use Rattle.rules.specs.System.{Sys, actor}
 use Rattle.net_rows.specs.declared.Sent.{Sent}
 use Rattle.net_rows.specs.Views.{netOf, NetReady}
 use Rattle.net_rows.proofs.Laws.{used-is}
 use Rattle.sys_seat.specs.Seat.{Around}
 use Rattle.sys_seat.proofs.Seats.{held}
+use Rattle.sys_reacts.proofs.Deliver.{never}
 use Rattle.sys_moves.specs.Views.{Rows, actorAt, sysAt, Ended}
 
 -- ---- two outcomes
-apart : (o : Outcome Sys) (p : Sys) (k : ℕ) → o ≡ done p → o ≡ refused k → ⊥
-apart o p k a b = let z : _≡_ {A = ℕ} 0 1 = cc in omega arith
-
 pub same-done : (o : Outcome Sys) (p q : Sys) → o ≡ done p → o ≡ done q → p ≡ q
 same-done o p q a b = cc
 
@@ -46,8 +43,8 @@ module _ (o : Outcome Sys) (a b : Answer) (p q : Sys) (pa : isDone a ≡ true �
     where
       go : (x y : Bool) → isDone a ≡ x → isDone b ≡ y → a ≡ b
       go true true h k = done-answer a h ∙ sym (done-answer b k)
-      go true false h k = absurd (apart o p (answerNumber b) (pa h) (rb k))
-      go false true h k = absurd (apart o q (answerNumber a) (pb k) (ra h))
+      go true false h k = absurd (never o p (answerNumber b) (pa h) (rb k))
+      go false true h k = absurd (never o q (answerNumber a) (pb k) (ra h))
       go false false h k = number-inj a b (same-refused o _ _ (ra h) (rb k))
 
 -- Cells that are one network are counted alike.

@@ -94,7 +94,8 @@ entered-few (first.Message e v) m m' q = go (isDuplicating (m .kind) || present 
     go true p = let z : delivering e m ≡ m' = cc in rw (← z) (fewer-entries e m, fewer-messages e m)
     go false p = let z : _≡_ {A = ℕ} 0 1 = cc in absurd (omega arith)
 
-never : {A : Type 0} (o : Outcome A) (p : A) (k : ℕ) → o ≡ done p → o ≡ refused k → ⊥
+-- No outcome is both done and refused.
+pub never : {A : Type 0} (o : Outcome A) (p : A) (k : ℕ) → o ≡ done p → o ≡ refused k → ⊥
 never o p k a b = let z : _≡_ {A = ℕ} 0 1 = cc in omega arith
 
 -- ---- the delivery, by whether the message is there

@@ -1,19 +1,19 @@
 -- The rules' actions in any system that holds the network and the actor: what the seat makes of them.
 -- Assumes nothing.
 use Prim.Native.Nat.{ℕ}
-use mathlib.Core.Path.{_≡_, refl, sym, ap, _∙_}
+use mathlib.Core.Path.{_≡_, refl, ap, _∙_}
 use mathlib.Core.Bool.{Bool, true, false, not, _&&_}
-use lib.ListN.{length, set, length-set}
+use lib.ListN.{length, length-set}
 use lib.Dec.{leb, ltb}
 use borrow.Author.Tests.{lt-ltb}
 use Rattle.types.specs.declared.Id.{Id}
 use Rattle.types.specs.declared.Envelope.{Envelope}
 use Rattle.types.specs.declared.Action.the-variants.{Deliver, Drop, Timeout, Crash, Recover}
 use Rattle.types.specs.Capacities.{network}
-use Rattle.rules.specs.Outcome.{Outcome, done, refused, bind, guard, ignoredIf, Room, Limits, Caps}
+use Rattle.rules.specs.Outcome.{Outcome, done, refused, bind, guard, ignoredIf, Room, Caps}
 use Rattle.rules.specs.Timers.{noTimers, isSet, cancelTimer}
 use Rattle.rules.specs.Network.{Net, onDeliver, onDrop}
-use Rattle.rules.specs.Link.{Command, Did, onStart, onMsg, onTimeout}
+use Rattle.rules.specs.Link.{Did, onStart, onMsg, onTimeout}
 use Rattle.rules.specs.System.{Actor, Sys, Next, Plan, systems, actor, known, withTimers, withLink, withMark, withActor, withNet, runCommands}
 use Rattle.rules.specs.System.{ended, planned, performed, perform, wake, onlySets, timed, deliver, dropped, timeout, crash, recover, act}
 use Rattle.sys_seat.specs.Seat.{Around, holding}
@@ -44,9 +44,6 @@ pub bind-same : {A B : Type 0} (m : Outcome A) (k l : A → Outcome B) → ((a :
 unfolding bind
 bind-same (done a) k l h = h a
 bind-same (refused n) k l h = refl
-
-pub guard-same : {A : Type 0} (b : Bool) (n : ℕ) (m m′ : Outcome A) → m ≡ m′ → guard b n m ≡ guard b n m′
-guard-same b n m m′ e = ap (guard b n) e
 
 opened : {A : Type 0} (n : ℕ) (m : Outcome A) → guard true n m ≡ m
 unfolding guard

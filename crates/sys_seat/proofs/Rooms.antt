@@ -10,7 +10,7 @@ use Rattle.types.specs.declared.Envelope.{Envelope}
 use Rattle.types.specs.declared.InnerCommand.{InnerCommand}
 use Rattle.types.specs.declared.InnerCommand.the-variants as inner
 use Rattle.rules.specs.Outcome.{done, bind, Room}
-use Rattle.rules.specs.Network.{send, sending, len}
+use Rattle.rules.specs.Network.{sending, len}
 use Rattle.rules.specs.Link.{Command, Set, Cancel, Send, Save}
 use Rattle.rules.specs.System.{Sys, withActor, withNet, runCommands}
 use Rattle.link_direct.specs.Direct.{asked, sends}

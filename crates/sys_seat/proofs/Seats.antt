@@ -1,14 +1,13 @@
 -- The commands of an actor, one by one, in any system that holds it: each changes the actor in its seat, or the network.
 -- Assumes nothing.
-use Prim.Native.Nat.{ℕ, zero, suc, _<_}
+use Prim.Native.Nat.{ℕ, zero, suc}
 use mathlib.Core.Path.{_≡_, refl, ap, _∙_}
 use mathlib.Core.List.{List, [], _∷_, _++_}
 use native.Mathlib.Omega.{arith}
-use lib.ListN.{length, getD, set, replicate, length-replicate}
+use lib.ListN.{set, replicate, length-replicate}
 use Rattle.types.specs.declared.Kind.the-variants.{Ordered}
 use Rattle.types.specs.declared.LastMessage.the-variants.{Nothing}
 use Rattle.types.specs.declared.Id.{Id}
-use Rattle.types.specs.declared.Message.{Message}
 use Rattle.rules.specs.Outcome.{Outcome, done, refused, bind, Room}
 use Rattle.rules.specs.Timers.{setTimer, cancelTimer}
 use Rattle.rules.specs.Network.{Net, send}
@@ -39,10 +38,6 @@ module _ (i : Id) (h : Around i) (n : Net) (a : Actor) where
   unfolding withActor
   seat-actor b = λ j. record { net = n; actors = set-twice (h .sys .actors) (i .0) a b j }
 
-  pub seat-net : (m : Net) → withNet m (holding i h n a) ≡ holding i h m a
-  unfolding withNet
-  seat-net m = refl
-
   -- The actor in the seat, changed by f.
   pub seat-change : (f : Actor → Actor) → withActor i (f (actor (holding i h n a) i)) (holding i h n a) ≡ holding i h n (f a)
   seat-change f = ap (λ (b : Actor). withActor i (f b) (holding i h n a)) held ∙ seat-actor (f a)
@@ -61,12 +56,6 @@ module _ (i : Id) (h : Around i) (n : Net) (a : Actor) where
     pub run-save : (d : Durable) → runCommands c i (Save d ∷ cs) (holding i h n a) ≡ runCommands c i cs (holding i h n (withStorage d a))
     unfolding runCommands
     run-save d = ap (runCommands c i cs) (seat-change (λ b. withStorage d b))
-
-    pub run-send : (r : Id) (m : Message)
-        → runCommands c i (Send r m ∷ cs) (holding i h n a)
-        ≡ bind (send c (record { src = i; dst = r; msg = m }) n) (λ x. runCommands c i cs (holding i h x a))
-    unfolding runCommands withNet
-    run-send r m = refl
 
 -- ---- a list run in two goes
 pub run-append : (c : Room) (i : Id) (cs ds : List Command) (s : Sys) → runCommands c i (cs ++ ds) s ≡ bind (runCommands c i cs s) (runCommands c i ds)

@@ -1,7 +1,6 @@
 -- A step touches the network and one actor. What it does is said of every system that holds them, so that each rule is stated once.
 -- Assumes nothing.
 use Prim.Native.Nat.{_<_}
-use mathlib.Core.List.{List}
 use lib.ListN.{length, set}
 use Rattle.types.specs.declared.Id.{Id}
 use Rattle.rules.specs.Network.{Net}

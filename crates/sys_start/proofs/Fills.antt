@@ -4,7 +4,7 @@ use Prim.Native.Nat.{ℕ, suc, _≤_, _<_}
 use native.Mathlib.Omega.{arith}
 use mathlib.Core.Path.{_≡_, refl, sym, ap, _∙_}
 use mathlib.Core.Bool.{true, false, true≢false}
-use mathlib.Core.List.{List, [], _∷_}
+use mathlib.Core.List.{List}
 use lib.ListN.{length, take, getD}
 use lib.Seq.{slice, slice-cons, slice-empty}
 use Rattle.types.specs.Capacities.{mostEntries, mostCopies}

@@ -23,7 +23,7 @@ use Rattle.rules.proofs.Answers.{start-done}
 use Rattle.net_rows.specs.declared.Sent.{Sent}
 use Rattle.link_inner.specs.declared.Table.{Table}
 use Rattle.sys_seat.proofs.Actions.{systems-guard, systems-bind}
-use Rattle.sys_system.specs.Views.{sysView, systemOf}
+use Rattle.sys_system.specs.Views.{systemOf}
 use Rattle.sys_system.proofs.Laws.{image-laid, system-back}
 use Rattle.sys_answered.specs.declared.Answered.{Answered}
 use Rattle.sys_answered.specs.Views.{Ready, answeredOf}

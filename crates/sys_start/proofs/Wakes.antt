@@ -10,13 +10,12 @@ use lib.Seq.{drop-cons, take-suc, getD-take, length-take-le}
 use Rattle.types.specs.Capacities.{mostActors, mostEntries, mostPending}
 use Rattle.lists.specs.Lists.{_∈_, all, pad}
 use Rattle.lists.proofs.Members.{all-in, get-in}
-use Rattle.lists.proofs.Places.{append-pad, length-pad}
+use Rattle.lists.proofs.Places.{append-pad}
 use Rattle.types.specs.declared.Id.{Id}
 use Rattle.types.specs.declared.Kind.{Kind}
 use Rattle.types.specs.declared.Rule.{Rule}
 use Rattle.types.specs.declared.LastMessage.{LastMessage}
 use Rattle.types.specs.declared.LastMessage.the-variants.{Nothing}
-use Rattle.answers.specs.declared.Answer.{Answer}
 use Rattle.answers.specs.declared.Answer.the-variants.{Done}
 use Rattle.answers.specs.Answers.{answerNumber, answerOf, isDone}
 use Rattle.answers.proofs.Numbers.{number-answer}
@@ -31,7 +30,7 @@ use Rattle.net_rows.specs.Views.{netOf, roomOf, NetReady}
 use Rattle.net_network.specs.Parts.{readBack}
 use Rattle.net_network.proofs.Changes.{read-is}
 use Rattle.link_inner.specs.declared.Table.{Table}
-use Rattle.link_inner.specs.Views.{rulesOf, tableOk, tableAs, zeroTable}
+use Rattle.link_inner.specs.Views.{rulesOf, tableOk, zeroTable}
 use Rattle.link_rows.specs.Rows.{rowSize}
 use Rattle.sys_actor.specs.declared.Actor.{Actor}
 use Rattle.sys_actor.specs.Views.{actorView, actorAs, ActorLaid, zeroActor}
@@ -42,7 +41,7 @@ use Rattle.sys_layout.proofs.Back.{no-rules, read-actor, read-laid}
 use Rattle.sys_moves.specs.Views.{Rows, rowsOf, actorAt, sysAt, Fine}
 use Rattle.sys_moves.specs.Views as moves
 use Rattle.sys_system.specs.declared.System.{System}
-use Rattle.sys_system.specs.Views.{TableLaid, seated, systemOf, tableFor}
+use Rattle.sys_system.specs.Views.{seated, systemOf, tableFor}
 use Rattle.sys_answered.specs.declared.Answered.{Answered}
 use Rattle.sys_answered.specs.Views.{answeredOf}
 use Rattle.sys_start.specs.declared.Woken.{Woken}

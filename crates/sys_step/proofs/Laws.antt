@@ -4,7 +4,7 @@ use Prim.Native.Nat.{ℕ, _≤_, _<_}
 use native.Mathlib.Omega.{arith}
 use mathlib.Core.Path.{_≡_, refl, sym, ap, _∙_, subst}
 use mathlib.Core.Bool.{Bool, true, false, true≢false, false≢true}
-use mathlib.Core.List.{List, [], _∷_, map}
+use mathlib.Core.List.{[], _∷_, map}
 use lib.ListN.{length, getD, length-map}
 use lib.Dec.{ltb}
 use borrow.Author.Tests.{ltb-true, leb-true}
@@ -14,7 +14,6 @@ use Rattle.lists.proofs.Members.{every-cons}
 use Rattle.lists.proofs.Places.{length-pad, get-any}
 use Rattle.types.specs.declared.Id.{Id}
 use Rattle.types.specs.declared.Action.{Action}
-use Rattle.answers.specs.declared.Answer.{Answer}
 use Rattle.answers.specs.declared.Answer.the-variants.{Done}
 use Rattle.answers.specs.Answers.{answerNumber, answerOf, isDone}
 use Rattle.answers.proofs.Numbers.{number-answer}
@@ -36,7 +35,7 @@ use Rattle.sys_actor.proofs.Laws.{fine-is, actor-kept}
 use Rattle.sys_seat.specs.Seat.{holding}
 use Rattle.sys_act.specs.Seats.{target, seat, seatOf}
 use Rattle.sys_system.specs.declared.System.{System}
-use Rattle.sys_system.specs.Views.{seated, sysView, systemOf, SystemLaid, systemLaid, systemFine, tableFor}
+use Rattle.sys_system.specs.Views.{seated, sysView, SystemLaid, systemFine, tableFor}
 use Rattle.sys_system.proofs.Laws.{formed-of, counted, net-ready, seat-ok, actor-at, table-is-ok, image-laid, system-back}
 use Rattle.sys_answered.specs.Views.{Ready, answeredOf}
 use Rattle.sys_step.specs.declared.Touched.{Touched}

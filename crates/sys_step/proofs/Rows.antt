@@ -1,9 +1,8 @@
 -- Network and actor laid out as rows are what the action asks, and what it leaves of them is laid back.
 -- Assumes nothing.
-use Prim.Native.Nat.{ℕ, _≤_, _<_}
+use Prim.Native.Nat.{ℕ, _≤_}
 use native.Mathlib.Omega.{arith}
-use mathlib.Core.Path.{_≡_, refl, sym, ap, subst, _∙_}
-use mathlib.Core.Bool.{true, false}
+use mathlib.Core.Path.{_≡_, sym, ap, subst, _∙_}
 use mathlib.Core.List.{List, []}
 use lib.ListN.{length, take, length-map}
 use lib.Seq.{length-take-le}
@@ -17,9 +16,9 @@ use Rattle.types.specs.declared.Action.the-variants.{Deliver}
 use Rattle.types.specs.declared.LastMessage.{LastMessage}
 use Rattle.answers.specs.declared.Answer.{Answer}
 use Rattle.answers.specs.Answers.{answerNumber, isDone}
-use Rattle.rules.specs.Outcome.{Outcome, done, refused, Caps, base}
+use Rattle.rules.specs.Outcome.{done, refused, base}
 use Rattle.rules.specs.Network.{Net, len}
-use Rattle.rules.specs.System.{Sys, systems, act}
+use Rattle.rules.specs.System.{systems, act}
 use Rattle.rules.specs.System as rules
 use Rattle.net_cells.specs.Cells.{entryOf}
 use Rattle.net_layout.specs.Layout.{LaidOut, Readable}

@@ -10,7 +10,6 @@ use Rattle.types.specs.Capacities.{mostActors}
 use Rattle.lists.specs.Lists.{pad}
 use Rattle.lists.proofs.Places.{set-pad, map-set}
 use Rattle.types.specs.declared.Id.{Id}
-use Rattle.types.specs.declared.Rule.{Rule}
 use Rattle.rules.specs.System as rules
 use Rattle.net_network.specs.declared.Network.{Network}
 use Rattle.net_network.specs.Views.{netView, NetLaid}

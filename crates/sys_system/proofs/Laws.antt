@@ -3,10 +3,10 @@
 use Prim.Native.Nat.{ℕ, suc, _≤_, _<_}
 use native.Mathlib.Omega.{arith}
 use mathlib.Core.Path.{_≡_, refl, sym, ap, subst, _∙_}
-use mathlib.Core.Bool.{Bool, true, false, false≢true}
+use mathlib.Core.Bool.{Bool, true, false}
 use mathlib.Core.List.{List, [], _∷_, map, zipWith, Memᴰ·append-left}
-use lib.ListN.{length, take, drop, getD, length-map, take-append-drop, List·getD-map}
-use lib.Seq.{length-take-le, getD-take}
+use lib.ListN.{length, take, drop, getD, length-map, take-append-drop}
+use lib.Seq.{length-take-le}
 use lib.Dec.{leb}
 use borrow.Author.Tests.{leb-true, le-leb}
 use Rattle.types.specs.Capacities.{mostEntries, mostActors}
@@ -20,12 +20,11 @@ use Rattle.rules.specs.Outcome.{base}
 use Rattle.rules.specs.Network.{Net}
 use Rattle.rules.specs.System as rules
 use Rattle.rules.specs.WellFormed.{netOk, actorOk, wellFormed}
-use Rattle.link_timers.proofs.Listed.{listed-timers}
 use Rattle.net_network.specs.Views.{zeroEntry, netView, networkOf, NetLaid, NetReady}
 use Rattle.net_network.proofs.Changes.{held}
 use Rattle.net_network.proofs.Ready.{ready-of-ok, viewed, laid-of}
 use Rattle.net_formed.specs.Formed.{laidOut, netFormed}
-use Rattle.net_formed.proofs.Laws.{laid-out, laid-passes, formed-is}
+use Rattle.net_formed.proofs.Laws.{laid-out, laid-passes}
 use Rattle.link_durable.proofs.Containers.{pad-view}
 use Rattle.link_inner.specs.declared.Table.{Table}
 use Rattle.link_inner.specs.Views.{tableOk}
@@ -33,12 +32,12 @@ use Rattle.sys_actor.specs.declared.Actor.{Actor}
 use Rattle.sys_actor.specs.Views.{actorAs, actorView, ActorLaid, actorLaid, actorFine, zeroActor, blankActor}
 use Rattle.sys_actor.proofs.Laws.{actor-laid, actor-back, actor-kept, fine-laid-out, timers-of, rules-of, blank-zero, zero-blank}
 use Rattle.sys_system.specs.declared.System.{System}
-use Rattle.link_inner.specs.Views.{zeroTable, tableAs}
-use Rattle.sys_system.specs.Views.{TableLaid, seated, tableFor, sysView, systemOf, SystemLaid, tableLaid, blankTable, systemLaid, systemFine}
+use Rattle.link_inner.specs.Views.{zeroTable}
+use Rattle.sys_system.specs.Views.{seated, tableFor, sysView, systemOf, SystemLaid, tableLaid, blankTable, systemLaid, systemFine}
 use Rattle.sys_system.proofs.Types.{SystemTyped}
 use Rattle.sys_system.proofs.Tables.{pad-rest, all-same, drop-in, rest-same, table-laid, table-parts, table-make, blank-table, rules-back, table-kept}
 use Rattle.sys_system.proofs.Tables as tables
-use Rattle.sys_system.proofs.Seats.{zip-length, zip-get, actors-again, tables-again, seats-formed, seats-fine, seen-again}
+use Rattle.sys_system.proofs.Seats.{zip-length, actors-again, tables-again, seats-formed, seats-fine, seen-again}
 
 pub take-in : {A : Type 0} (n : ℕ) (l : List A) (x : A) → x ∈ take n l → x ∈ l
 take-in {A} n l x m = subst (λ (k : List A). x ∈ k) (take-append-drop n l) (Memᴰ·append-left (drop n l) m)

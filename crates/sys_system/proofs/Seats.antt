@@ -2,8 +2,8 @@
 -- Assumes nothing.
 use Prim.Native.Nat.{ℕ, zero, suc, _<_}
 use native.Mathlib.Omega.{arith}
-use mathlib.Core.Path.{_≡_, refl, sym, ap, ap₂, _∙_}
-use mathlib.Core.Bool.{Bool, true}
+use mathlib.Core.Path.{_≡_, refl, ap, ap₂, _∙_}
+use mathlib.Core.Bool.{true}
 use mathlib.Core.List.{List, [], _∷_, map, zipWith, List·Memᴰ·head, List·Memᴰ·tail}
 use lib.ListN.{length, getD}
 use Rattle.lists.specs.Lists.{_∈_, all}
@@ -16,10 +16,9 @@ use Rattle.link_inner.specs.declared.Table.{Table}
 use Rattle.link_inner.specs.Views.{rulesOf, tableOk}
 use Rattle.sys_actor.specs.declared.Actor.{Actor}
 use Rattle.sys_actor.specs.Views.{actorView, actorAs, ActorLaid, actorLaid, actorFine}
-use Rattle.sys_actor.proofs.Laws.{actor-back, actor-formed, formed-fine, fine-laid-out, timers-of, rules-of, actor-kept}
-use Rattle.link_inner.specs.Views.{tableAs}
+use Rattle.sys_actor.proofs.Laws.{actor-back, actor-formed, formed-fine, timers-of}
 use Rattle.sys_system.specs.Views.{TableLaid, seated, tableFor, tableLaid}
-use Rattle.sys_system.proofs.Tables.{table-parts, table-make, rules-back, table-kept}
+use Rattle.sys_system.proofs.Tables.{table-parts, table-make, rules-back}
 
 -- ---- two lists side by side
 module _ {A B C : Type 0} (f : A → B → C) where

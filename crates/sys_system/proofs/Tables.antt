@@ -3,19 +3,19 @@
 use Prim.Native.Nat.{ℕ, zero, suc, _-_, _≤_}
 use native.Mathlib.Omega.{arith}
 use mathlib.Core.Path.{_≡_, refl, sym, ap, subst, _∙_}
-use mathlib.Core.Bool.{Bool, true, false, _&&_, true≢false, and-true}
+use mathlib.Core.Bool.{Bool, true, _&&_, and-true}
 use mathlib.Core.List.{List, [], _∷_, _++_, List·Memᴰ·head, List·Memᴰ·tail, Memᴰ·append-right}
 use lib.ListN.{length, take, drop, replicate, length-drop, take-append-drop}
 use lib.Seq.{length-take-le, drop-at}
-use lib.Dec.{leb, eqb, lit≤}
-use borrow.Author.Tests.{leb-true, le-leb, eqb-true}
+use lib.Dec.{leb}
+use borrow.Author.Tests.{leb-true, eqb-true}
 use Rattle.link_inner.proofs.Tables.{blank-is}
-use Rattle.types.specs.Capacities.{mostRules, mostCommands}
+use Rattle.types.specs.Capacities.{mostRules}
 use Rattle.lists.specs.Lists.{_∈_, all, every, pad}
-use Rattle.lists.proofs.Members.{and-both, every-cons, every-make, every-nil, all-in, not-true}
+use Rattle.lists.proofs.Members.{and-both, every-cons, every-make, every-nil}
 use Rattle.lists.proofs.Places.{laid-length}
 use Rattle.types.specs.declared.Rule.{Rule}
-use Rattle.rules.specs.WellFormed.{zeroCommand, unused, ruleOk, sound}
+use Rattle.rules.specs.WellFormed.{zeroCommand, unused, sound}
 use Rattle.link_inner.specs.declared.Table.{Table}
 use Rattle.link_inner.specs.Views.{rulesOf, blankRule, tableOk}
 use Rattle.link_durable.proofs.Containers.{pad-view}

@@ -1,16 +1,12 @@
 -- The rules' system that the struct holds, the struct that holds one, and the whole test of a system.
 -- Assumes nothing.
-use Prim.Native.Nat.{ℕ}
 use mathlib.Core.Path.{_≡_}
-use mathlib.Core.Bool.{Bool, true, false}
-use mathlib.Core.List.{List, [], _∷_, map, zipWith}
-use lib.ListN.{length, take, drop, replicate}
+use mathlib.Core.Bool.{Bool}
+use mathlib.Core.List.{[], _∷_, map, zipWith}
+use lib.ListN.{length, take, drop}
 use lib.Dec.{leb, eqb}
-use Rattle.types.specs.Capacities.{mostActors, mostRules, mostCommands}
+use Rattle.types.specs.Capacities.{mostActors, mostRules}
 use Rattle.lists.specs.Lists.{all, every, pad}
-use Rattle.types.specs.declared.Slot.{Slot}
-use Rattle.types.specs.declared.Rule.{Rule}
-use Rattle.types.specs.declared.RuleCommand.the-variants.{SetTimer}
 use Rattle.rules.specs.Outcome.{base}
 use Rattle.rules.specs.System as rules
 use Rattle.rules.specs.WellFormed.{wellFormed}

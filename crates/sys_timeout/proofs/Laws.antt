@@ -3,14 +3,13 @@
 use Prim.Native.Nat.{ℕ, suc, _+_, _≤_, _<_}
 use native.Mathlib.Omega.{arith}
 use mathlib.Core.Path.{_≡_, refl, sym, ap, _∙_, subst}
-use mathlib.Core.Bool.{Bool, true, false}
+use mathlib.Core.Bool.{true, false}
 use mathlib.Core.List.{List, [], _∷_, map}
 use lib.ListN.{length, take, getD, set, length-set}
 use lib.Seq.{getD-set-same, getD-set-other}
 use lib.Dec.{leb, eqb}
 use borrow.Author.Tests.{le-leb, lt-leb, ne-eqb}
-use Rattle.lists.specs.Lists.{choose}
-use Rattle.types.specs.Capacities.{network, mostPending, lastState}
+use Rattle.types.specs.Capacities.{network, mostPending}
 use Rattle.types.specs.declared.Id.{Id}
 use Rattle.types.specs.declared.Kind.{Kind}
 use Rattle.types.specs.declared.Rule.{Rule}
@@ -22,7 +21,7 @@ use Rattle.types.specs.declared.Action.the-variants.{Timeout}
 use Rattle.answers.specs.declared.Answer.the-variants.{Done, Ignored, OutOfRange, NotSet}
 use Rattle.answers.specs.Answers.{isDone}
 use Rattle.rules.specs.Outcome.{Outcome, done, refused, bind, Room}
-use Rattle.rules.specs.Inner.{Reply, reply, ignored, nobody}
+use Rattle.rules.specs.Inner.{reply, ignored, nobody}
 use Rattle.rules.specs.Timers.{isSet, cancelTimer}
 use Rattle.rules.specs.Network.{Net, send}
 use Rattle.rules.specs.Link.{Command, resent}
@@ -33,8 +32,6 @@ use Rattle.link_timers.specs.Views.{listed, cancelOf}
 use Rattle.link_timers.proofs.Listed.{listed-timers, listed-cancel, word-small}
 use Rattle.net_rows.specs.declared.Sent.{Sent}
 use Rattle.net_rows.specs.Views.{netOf, roomOf}
-use Rattle.link_tables.specs.Rows.{orders, replied, TableLaid, rulesIn, firstOf}
-use Rattle.link_tables.proofs.Replies.{row-replies, none-ignored}
 use Rattle.link_rows.specs.Rows.{pendingIn, durableIn}
 use Rattle.sys_seat.specs.Seat.{Around, holding}
 use Rattle.sys_emits.specs.declared.Emitted.{Emitted}

@@ -1,6 +1,5 @@
 -- The place that is found, unless its rule ignores the event.
 use native.Mathlib.Omega.{arith}
-use Prim.Native.Nat.{_<_}
 use mathlib.Core.Path.{sym, _∙_}
 use Rattle.link_tables.proofs.Replies.{none-decides, one-ignores, one-decides}
 use borrow.Author.Needs.{needs}

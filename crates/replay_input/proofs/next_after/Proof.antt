@@ -1,6 +1,6 @@
 -- `replay_input::next_after` meets its contract. Sums fit since what was read lies in the buffer.
 -- Assumes nothing.
-use Prim.Native.Nat.{ℕ, _+_, _≤_, _<_}
+use Prim.Native.Nat.{ℕ, _+_, _≤_}
 use native.Mathlib.Omega.{arith}
 use mathlib.Core.Path.{_≡_, subst}
 use borrow.Author.Needs.{needs}

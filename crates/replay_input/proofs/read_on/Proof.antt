@@ -2,14 +2,12 @@
 -- Assumes nothing.
 use Prim.Native.Nat.{_-_}
 use native.Mathlib.Omega.{arith}
-use mathlib.Core.Path.{sym, subst}
 use borrow.Author.Needs.{needs}
 use lib.ListN.{length}
 use borrow.Rule.Slice.PartMut.{take-put, mid-len, same-len-mid}
 use mir.Syntax.{w64}
 use mir.Val.{SFits}
 use mir.ValLaws.{toZ-ofZ}
-use Rattle.libc.specs.Io.{Moved}
 use Rattle.replay_input.proofs.Laws.{part-size, gave-within}
 use Rattle.replay_input.proofs.read_on.Statement.{statement}
 use Rattle.replay_input.proofs.read_on.Tie as tie

@@ -1,5 +1,4 @@
 -- The start's line is written first. A start that is refused ends there; else the run goes on from the place where the opening ends.
-use Prim.Native.Nat.{ℕ}
 use native.Mathlib.Omega.{arith}
 use mathlib.Core.Path.{_≡_, sym, ap, _∙_}
 use lib.ListN.{drop}

@@ -1,10 +1,7 @@
 -- What the opening's answer holds is what was read, and it fits its arrays; so the start is that of the lists.
 use borrow.Author.Tests.{not-true, not-false}
-use mathlib.Core.Path.{_≡_, sym, ap, _∙_}
+use mathlib.Core.Path.{sym, ap, _∙_}
 use Rattle.rules.specs.Script.{versions, openingFrom}
-use Rattle.rules.specs.Start.{blank}
-use Rattle.sys_system.specs.Views.{systemOf}
-use Rattle.sys_answered.specs.Views.{answeredOf}
 use Rattle.script_opening.proofs.Readings.{told-bad}
 use Rattle.script_opening.proofs.Lists.{opening-tells}
 use Rattle.replay_start.specs.Views.{openedOf}

@@ -1,14 +1,11 @@
 -- The length is tested first. Then the opening is read; where that is good, the layout is that of the actions behind it.
 use borrow.Author.Tests.{not-true, not-false}
-use mathlib.Core.Path.{_≡_, refl, sym, ap, subst, _∙_}
-use lib.ListN.{drop}
-use Rattle.types.specs.declared.Format.{Format}
+use mathlib.Core.Path.{sym, subst, _∙_}
 use Rattle.rules.specs.Script.{versions, Fine, openingFrom, readScript}
 use Rattle.rules.proofs.Formats.{formats-fine}
-use Rattle.script_opening.proofs.Readings.{told-found, told-bad}
-use Rattle.script_opening.proofs.Kept.{kept-opening}
+use Rattle.script_opening.proofs.Readings.{told-bad}
 use Rattle.script_opening.proofs.Lists.{opening-tells}
-use Rattle.script_check.proofs.Whole.{opening-good, opening-bad, opening-layout, not-long, too-long}
+use Rattle.script_check.proofs.Whole.{opening-bad, opening-layout, not-long, too-long}
 use Rattle.script_check.proofs.Says.{layout-both}
 use borrow.Author.Needs.{needs}
 use Rattle.script_check.proofs.check_script.Statement.{statement}

@@ -1,6 +1,6 @@
 -- Each list is read from where the one before it ends; the first bad record is where reading stops.
 use borrow.Author.Tests.{not-true, not-false}
-use mathlib.Core.Path.{_≡_, _∙_}
+use mathlib.Core.Path.{_∙_}
 use Rattle.rules.specs.Script.{Header}
 use Rattle.script_opening.proofs.Opening.{no-tables, no-envelopes, both-lists}
 use borrow.Author.Needs.{needs}

@@ -1,5 +1,5 @@
 -- The header is read first, and its version gives the format of the lists.
-use mathlib.Core.Path.{_≡_, sym, ap, subst, _∙_}
+use mathlib.Core.Path.{sym, ap, subst, _∙_}
 use Rattle.rules.specs.Script.{versions, Fine, headerForm, openingFrom}
 use Rattle.rules.proofs.Formats.{formats-fine}
 use Rattle.script_opening.specs.Views.{openingRead}

@@ -1,6 +1,6 @@
 -- Absent from the actors, the source is refused; else it is the network's Drop.
 use native.Mathlib.Omega.{arith}
-use mathlib.Core.Path.{_≡_, refl, sym, _∙_}
+use mathlib.Core.Path.{refl, sym, _∙_}
 use borrow.Author.Tests.{not-true, not-false, ltb-true, ltb-false}
 use borrow.Author.Needs.{needs}
 use Rattle.sys_act.proofs.drop.Statement.{statement}

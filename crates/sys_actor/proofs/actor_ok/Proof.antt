@@ -9,7 +9,7 @@ use Rattle.types.specs.Capacities.{mostPending, mostActors}
 use Rattle.lists.specs.Lists.{every}
 use Rattle.lists.proofs.Places.{length-mapped}
 use Rattle.sys_actor.specs.Views.{actorFine}
-use Rattle.sys_actor.proofs.Laws.{Typed, actor-laid, fine-laid-out, refuses, tells}
+use Rattle.sys_actor.proofs.Laws.{actor-laid, fine-laid-out, refuses, tells}
 use borrow.Author.Needs.{needs}
 use Rattle.sys_actor.proofs.actor_ok.Statement.{statement}
 use Rattle.sys_actor.proofs.actor_ok.Tie as tie

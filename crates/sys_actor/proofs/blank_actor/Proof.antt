@@ -10,7 +10,7 @@ use Rattle.types.specs.Capacities.{mostPending, mostActors}
 use Rattle.lists.specs.Lists.{every}
 use Rattle.lists.proofs.Places.{length-mapped}
 use Rattle.sys_actor.specs.Views.{blankActor}
-use Rattle.sys_actor.proofs.Laws.{Typed, blank-zero, refuses, tells}
+use Rattle.sys_actor.proofs.Laws.{blank-zero, refuses, tells}
 use borrow.Author.Needs.{needs}
 use Rattle.sys_actor.proofs.blank_actor.Statement.{statement}
 use Rattle.sys_actor.proofs.blank_actor.Tie as tie

@@ -1,8 +1,5 @@
 -- A live actor passes; a crashed one passes where no timer is set.
 -- Assumes nothing.
-use mathlib.Core.Path.{ap}
-use mathlib.Core.Bool.{not, _||_}
-use lib.Dec.{eqb}
 use borrow.Author.Tests.{not-true, not-false}
 use Rattle.rules.specs.Timers.{countTimers}
 use Rattle.sys_actor.specs.Views.{quiet}

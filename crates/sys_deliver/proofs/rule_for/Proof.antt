@@ -1,7 +1,6 @@
 -- Not newer, or else as the rules decide.
 use native.Mathlib.Omega.{arith}
 use Rattle.sys_deliver.proofs.Chosen.{taker-old, taker-new}
-use borrow.Author.Needs.{needs}
 use Rattle.sys_deliver.proofs.rule_for.Statement.{statement}
 use Rattle.sys_deliver.proofs.rule_for.Tie as tie
 

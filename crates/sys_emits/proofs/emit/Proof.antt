@@ -1,11 +1,10 @@
-use Prim.Native.Nat.{ℕ, suc, _+_, _≤_, _<_, _-_}
+use Prim.Native.Nat.{_+_, _≤_, _<_, _-_}
 use borrow.Author.Needs.{needs}
 use borrow.Author.Tests.{not-true, not-false}
 use native.Mathlib.Omega.{arith}
-use native.Mathlib.Numerals.{add-one}
-use mathlib.Core.Path.{_≡_, refl, sym, ap, _∙_}
+use mathlib.Core.Path.{refl, sym, _∙_}
 use lib.ListN.{getD, take, drop}
-use Rattle.link_tables.specs.Rows.{RowLaid, orders, orderAt}
+use Rattle.link_tables.specs.Rows.{orders}
 use Rattle.link_tables.proofs.Told.{split-at, orders-end}
 use Rattle.link_direct.specs.Direct.{asked}
 use Rattle.sys_emits.proofs.Along.{Along, along-end, along-stop, along-step, along-room, nothing-more, none-left}

@@ -1,4 +1,3 @@
-use native.Mathlib.Omega.{arith}
 use mathlib.Core.Path.{ap, _∙_}
 use Rattle.link_timers.specs.declared.Change.{Change}
 use Rattle.link_timers.specs.Views.{listed}

@@ -1,5 +1,4 @@
 use Rattle.types.specs.declared.Kind.the-variants.{Ordered, UnorderedDuplicating, UnorderedNonDuplicating}
-use native.Mathlib.Omega.{arith}
 use mathlib.Core.Path.{refl}
 use Rattle.lists.specs.Lists.{choose}
 use Rattle.rules.specs.Network.{isDuplicating}

@@ -1,6 +1,6 @@
 use native.Mathlib.Omega.{arith}
-use mathlib.Core.Bool.{true, false}
-use mathlib.Core.Path.{refl, sym}
+use mathlib.Core.Bool.{false}
+use mathlib.Core.Path.{refl}
 use borrow.Author.Tests.{leb-true}
 use Rattle.sys_emits.proofs.Laws.{not-both}
 use borrow.Author.Needs.{needs}

@@ -1,10 +1,10 @@
 use borrow.Author.Needs.{needs}
 use borrow.Author.Tests.{not-true, not-false}
 use native.Mathlib.Omega.{arith}
-use Prim.Native.Nat.{ℕ, _+_, _-_, _≤_, _<_}
-use mathlib.Core.Path.{_≡_, refl, sym, _∙_}
+use Prim.Native.Nat.{_+_, _-_, _≤_, _<_}
+use mathlib.Core.Path.{refl, sym, _∙_}
 use mathlib.Core.List.{[], map}
-use lib.ListN.{length, getD, take, drop}
+use lib.ListN.{getD, take, drop}
 use Rattle.rules.specs.Link.{resent}
 use Rattle.link_rows.specs.Rows.{pendingIn}
 use Rattle.sys_resends.proofs.Laws.{Along, along-end, along-stop, along-step, next-one, no-more, nothing-more, none-left}

@@ -1,14 +1,13 @@
 -- `startable` meets its contract. Each test that fails decides, and the last one decides where the others hold.
 -- Assumes nothing.
-use mathlib.Core.Path.{_≡_, sym, ap, _∙_}
+use mathlib.Core.Path.{_≡_, sym, _∙_}
 use mathlib.Core.Bool.{and-true}
 use lib.ListN.{length, take}
 use borrow.Author.Tests.{le-leb, lt-leb, not-true, not-false}
 use borrow.Author.Needs.{needs}
 use Rattle.types.specs.Capacities.{mostActors}
-use Rattle.lists.specs.Lists.{all, every}
+use Rattle.lists.specs.Lists.{every}
 use Rattle.lists.proofs.Places.{length-mapped}
-use Rattle.rules.specs.WellFormed.{sourceKnown}
 use Rattle.sys_formed.proofs.Passes.{tables-used}
 use Rattle.sys_start.proofs.Tests.{fine-tests}
 use Rattle.sys_start.proofs.startable.Statement.{statement}

@@ -1,12 +1,8 @@
 -- `wake_one` meets its contract: fresh rows are the unstarted actor, and what the wake leaves of them is laid back.
 -- Assumes nothing.
-use mathlib.Core.Path.{_≡_, refl, sym, ap, _∙_}
-use mathlib.Core.List.{[], _∷_}
-use lib.ListN.{length, replicate, length-replicate}
-use Rattle.types.specs.Capacities.{mostPending}
-use Rattle.link_rows.specs.Rows.{rowSize}
+use mathlib.Core.Path.{refl}
 use Rattle.link_tables.specs.Rows.{rulesIn}
-use Rattle.sys_moves.specs.Views.{Rows, rowsOf, Fine}
+use Rattle.sys_moves.specs.Views.{Rows, rowsOf}
 use Rattle.sys_start.proofs.Wakes.{fresh-fine, wakes}
 use borrow.Author.Needs.{needs}
 use Rattle.sys_start.proofs.wake_one.Statement.{statement}

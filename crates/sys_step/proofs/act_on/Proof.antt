@@ -1,5 +1,4 @@
 -- Only the network and one seat are touched, and they are put back.
-use native.Mathlib.Omega.{arith}
 use mathlib.Core.Path.{_∙_}
 use Rattle.sys_formed.proofs.Outside.{no-actor, no-table}
 use Rattle.sys_step.proofs.Laws.{below, touchable, act-done}

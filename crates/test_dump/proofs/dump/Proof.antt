@@ -1,7 +1,6 @@
 -- `dump` answers the place after its bytes: that is a sum, and the room that it asks for makes it fit. What it calls needs nothing.
 -- Assumes nothing.
 use borrow.Author.Needs.{needs}
-use native.Mathlib.Omega.{arith}
 use Prim.Native.Nat.{ℕ, _≤_, _+_, _-_, _*_}
 use mathlib.Core.Path.{_≡_, refl}
 use lib.ListN.{length}

@@ -1,7 +1,6 @@
 -- `put` ends: it writes seven numbers, each within the slice, which keeps its length.
 -- Assumes nothing.
 use borrow.Author.Needs.{needs}
-use native.Mathlib.Omega.{arith}
 use Prim.Native.Nat.{_≤_, _-_}
 use mathlib.Core.Path.{_≡_, refl}
 use lib.ListN.{length}

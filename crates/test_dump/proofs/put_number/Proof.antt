@@ -1,7 +1,6 @@
 -- `put_number` stays within the slice: past the tests there is room for the whole width, and the place counts down from it.
 -- Assumes nothing.
 use borrow.Author.Needs.{needs}
-use native.Mathlib.Omega.{arith}
 use Prim.Native.Nat.{_≤_}
 use mathlib.Core.Path.{_≡_, refl, _∙_}
 use lib.ListN.{length, length-set}

@@ -1,7 +1,6 @@
 -- `find` stays between where it begins and the end: each turn takes one byte.
 -- Assumes nothing.
 use borrow.Author.Needs.{needs}
-use native.Mathlib.Omega.{arith}
 use Prim.Native.Nat.{_≤_, _-_}
 use lib.ListN.{length}
 use Rattle.test_ill_formed.proofs.find.Statement.{statement}

@@ -1,7 +1,6 @@
 -- `run` ends and cuts within the text: a line's colon stands at or behind its beginning, its end at or behind its colon.
 -- Assumes nothing.
 use borrow.Author.Needs.{needs}
-use native.Mathlib.Omega.{arith}
 use Prim.Native.Nat.{_+_, _≤_, _-_}
 use lib.ListN.{length}
 use Rattle.test_ill_formed.proofs.run.Statement.{statement}

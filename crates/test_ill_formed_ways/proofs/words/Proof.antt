@@ -1,7 +1,6 @@
 -- `words` stays within its array and ends: the place of a number is always one of 48, and each turn takes one byte.
 -- Assumes nothing.
 use borrow.Author.Needs.{needs}
-use native.Mathlib.Omega.{arith}
 use Prim.Native.Nat.{_≤_, _<_, _-_}
 use mathlib.Core.Path.{_≡_}
 use lib.ListN.{length}

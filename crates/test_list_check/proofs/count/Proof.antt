@@ -1,7 +1,7 @@
 -- `count` meets its contract: the first that differs is told apart by the count so far.
 -- Assumes nothing.
 use borrow.Author.Needs.{needs}
-use mathlib.Core.Logic.{_⊎_, inl, inr}
+use mathlib.Core.Logic.{inl, inr}
 use Rattle.test_list_check.proofs.Laws.{counted-right, counted-wrong}
 use Rattle.test_list_check.proofs.count.Statement.{statement}
 use Rattle.test_list_check.proofs.count.Tie as tie

@@ -2,11 +2,11 @@
 -- Assumes nothing.
 use borrow.Author.Needs.{needs}
 use native.Mathlib.Omega.{arith}
-use Prim.Native.Nat.{ℕ, _+_}
-use mathlib.Core.Path.{_≡_, sym, ap, _∙_}
+use Prim.Native.Nat.{ℕ}
+use mathlib.Core.Path.{_≡_, ap, _∙_}
 use mathlib.Core.List.{List}
 use lib.ListN.{drop}
-use Rattle.test_list_check.specs.List.{partSize, second, pairSize}
+use Rattle.test_list_check.specs.List.{partSize, second}
 use Rattle.test_list_check.proofs.Laws.{no-script, no-output, both, sum-within}
 use Rattle.test_list_check.proofs.pair.Statement.{statement}
 use Rattle.test_list_check.proofs.pair.Tie as tie
