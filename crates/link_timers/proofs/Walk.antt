@@ -1,6 +1,6 @@
 -- A walk by `next`, each time from one above the timer that was answered, meets the whole list in its order.
 -- Assumes nothing.
-use Prim.Native.Nat.{ℕ, zero, suc, _+_, _≤_, _<_}
+use Prim.Native.Nat.{ℕ, zero, suc, _+_, _≤_}
 use native.Mathlib.Omega.{arith}
 use mathlib.Core.Path.{_≡_, refl, sym, ap, _∙_}
 use mathlib.Core.Bool.{Bool, true, false}
@@ -44,15 +44,6 @@ first-least f z (y ∷ ys) e = by-test (first-least f z ys) (leb f y) refl e
     by-test : (firstFrom f ys ≡ Timer z → f ≤ z) → (b : Bool) → leb f y ≡ b → choose b (Timer y) (firstFrom f ys) ≡ Timer z → f ≤ z
     by-test rest true p q = let same : y ≡ z = cc in omega (arith, leb-true f y p)
     by-test rest false p q = rest q
-
-first-within : (f z lo hi : ℕ) (ts : List ℕ) → Ascends lo hi ts → firstFrom f ts ≡ Timer z → z < hi
-unfolding firstFrom choose
-first-within f z lo hi [] a e = let c : _≡_ {A = ℕ} 0 1 = cc in absurd (omega arith)
-first-within f z lo hi (y ∷ ys) a e = by-test (first-within f z (suc y) hi ys (a .2)) (leb f y) e
-  where
-    by-test : (firstFrom f ys ≡ Timer z → z < hi) → (b : Bool) → choose b (Timer y) (firstFrom f ys) ≡ Timer z → z < hi
-    by-test rest true q = let same : y ≡ z = cc in omega arith
-    by-test rest false q = rest q
 
 -- A timer below what was found is no part of the rest.
 passed : (y : ℕ) (ys : List ℕ) (o : Found) → ((z : ℕ) → o ≡ Timer z → y ≤ z) → andOn o (λ g. restFrom g ys)

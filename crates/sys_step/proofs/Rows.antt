@@ -21,14 +21,14 @@ use Rattle.rules.specs.Network.{Net, len}
 use Rattle.rules.specs.System.{systems, act}
 use Rattle.rules.specs.System as rules
 use Rattle.net_cells.specs.Cells.{entryOf}
-use Rattle.net_layout.specs.Layout.{LaidOut, Readable}
+use Rattle.net_layout.specs.Layout.{LaidOut}
 use Rattle.net_rows.specs.declared.Sent.{Sent}
 use Rattle.net_rows.specs.Views.{lastAfter, netOf}
 use Rattle.net_rows.specs.Views as rows
 use Rattle.net_network.specs.declared.Network.{Network}
 use Rattle.net_network.specs.Views.{entryList, netView, networkOf, NetLaid, NetReady}
 use Rattle.net_network.specs.Parts.{readBack}
-use Rattle.net_network.proofs.Changes.{cells-room, cells-net, cells-limits, cells-ready, readable, read-is}
+use Rattle.net_network.proofs.Changes.{cells-room, cells-net, cells-limits, cells-ready, read-is}
 use Rattle.net_network.proofs.Ready.{viewed, laid-of}
 use Rattle.link_inner.specs.declared.Table.{Table}
 use Rattle.link_inner.specs.Views.{rulesOf}
@@ -96,9 +96,6 @@ module _ (count : ℕ) (n : Network) (b : Actor) (t : Table) (ready : NetReady n
 
     acts : (hall : Around me) → acting count a hall n b t ≡ systems (act (capsOf cs) (sysAt me hall (n .kind) (n .last) (n .used) rs x) a)
     acts hall = sym (λ i. systems (act (caps i) (came hall i) a))
-
-    pub read-asks : Readable (y .cells) (r .used)
-    read-asks = readable (step .fine .net) (step .fine .room)
 
     module _ (z : Touched) (answer : z .answer ≡ r .answer) (net : z .network ≡ readBack (n .kind) (y .cells) (r .used) last)
         (own : z .actor ≡ actorAs (actorAt [] y)) where

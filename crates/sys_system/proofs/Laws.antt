@@ -29,7 +29,7 @@ use Rattle.link_durable.proofs.Containers.{pad-view}
 use Rattle.link_inner.specs.declared.Table.{Table}
 use Rattle.link_inner.specs.Views.{tableOk}
 use Rattle.sys_actor.specs.declared.Actor.{Actor}
-use Rattle.sys_actor.specs.Views.{actorAs, actorView, ActorLaid, actorLaid, actorFine, zeroActor, blankActor}
+use Rattle.sys_actor.specs.Views.{actorAs, actorView, actorLaid, actorFine, zeroActor, blankActor}
 use Rattle.sys_actor.proofs.Laws.{actor-laid, actor-back, actor-kept, fine-laid-out, timers-of, rules-of, blank-zero, zero-blank}
 use Rattle.sys_system.specs.declared.System.{System}
 use Rattle.link_inner.specs.Views.{zeroTable}
@@ -225,9 +225,6 @@ module _ (s : System) (laid : SystemLaid s) (ok : wellFormed base (sysView s) �
     actor-view =
         (λ j. seated (table-at j) (actor-at j)) ∙ ap (λ (rs : List Rule). actorView rs (actorAs here)) (rules-back (here .rules))
         ∙ actor-back here (timers-of (length l) here seat-ok)
-
-    pub actor-is-laid : ActorLaid (getD (s .actors) (i .0) zeroActor)
-    actor-is-laid = subst ActorLaid (sym actor-at) (ap actorAs (sym (actor-back here (timers-of (length l) here seat-ok))))
 
     pub table-is-ok : tableOk (getD (s .tables) (i .0) zeroTable) ≡ true
     table-is-ok =
