@@ -17,6 +17,19 @@ use Rattle.rules.specs.Outcome.{done, refused, bind, guard, Limits}
 use Rattle.rules.specs.Link.{Durable, Command, Set, Cancel, Send, Event, Sent, Output, also, process, posting, withInner, numbered}
 use Rattle.link_direct.specs.Direct.{sends}
 
+-- ---- how many are sent
+pub sends-cons : (x : InnerCommand) (os : List InnerCommand) → sends (x ∷ os) ≡ sends (x ∷ []) + sends os
+unfolding sends
+sends-cons (inner.SetTimer t) os = omega arith
+sends-cons (inner.CancelTimer t) os = omega arith
+sends-cons (inner.Save v) os = omega arith
+sends-cons (inner.Send r p) os = omega arith
+
+pub sends-one : (x : InnerCommand) (r : Id) (p : Payload) → x ≡ inner.Send r p → sends (x ∷ []) ≡ 1
+unfolding sends
+sends-one x r p e = rw e
+
+-- ---- what is left is enough, or not
 pub record Goes (lim : Limits) (i : Id) (d : Durable) (os : List InnerCommand) : Type 0 where
   pub output : Output
   pub told : process lim i d os ≡ done output

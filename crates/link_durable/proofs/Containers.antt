@@ -7,13 +7,13 @@ use mathlib.Core.Path.{_≡_, refl, sym, ap, _∙_}
 use mathlib.Core.Bool.{Bool, true, false}
 use mathlib.Core.List.{[], List, _∷_, _++_}
 use lib.ListN.{length, take, drop, replicate, length-take, length-drop, take-append-drop}
-use lib.Seq.{take-at, drop-at, length-take-le}
+use lib.Seq.{drop-at, length-take-le}
 use lib.Dec.{leb}
 use borrow.Author.Tests.{leb-true, le-leb, eqb-true}
 use Rattle.lists.specs.Lists.{choose, all, chain, endsIn, every, pad}
 use Rattle.lists.proofs.Members.{every-cons, every-make, every-nil}
 use Rattle.lists.proofs.Walks.{all-same}
-use Rattle.lists.proofs.Places.{laid-length}
+use Rattle.lists.proofs.Places.{laid-length, pad-view}
 use Rattle.types.specs.Capacities.{mostPending, mostActors}
 use Rattle.types.specs.declared.Number.{Number}
 use Rattle.types.specs.declared.Pending.{Pending}
@@ -59,10 +59,6 @@ module _ {A : Type 0} (p : A → Bool) (z : A) where
   unfolding pad
   is-laid zero n l h =
       every-make _ _ (le-leb (length l) n h) (every-make _ _ (ap (all p) (drop-at l _ (length l) refl) ∙ all-fill zero (n - length l)) every-nil)
-
-pub pad-view : {A : Type 0} (n : ℕ) (z : A) (l : List A) → take (length l) (pad n z l) ≡ l
-unfolding pad
-pad-view n z l = take-at l _ (length l) refl
 
 -- ---- pending records
 abbrev pub PendingLaid : Pendings → Type 0

@@ -1,4 +1,4 @@
--- Arrays filled place by place; and what the rows of a durable part hold.
+-- How far the arrays of a durable part are filled, and what its rows hold.
 -- Assumes nothing.
 use Prim.Native.Nat.{ℕ, zero, suc, _+_, _-_, _≤_, _<_}
 use native.Mathlib.Omega.{arith}

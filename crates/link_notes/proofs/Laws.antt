@@ -5,6 +5,7 @@ use native.Mathlib.Omega.{arith}
 use mathlib.Core.Path.{_≡_, refl, sym, ap, _∙_}
 use mathlib.Core.List.{List, [], _∷_}
 use lib.ListN.{drop, getD}
+use Rattle.link_direct.proofs.Laws.{sends-cons}
 use Rattle.types.specs.declared.Id.{Id}
 use Rattle.types.specs.declared.Payload.{Payload}
 use Rattle.types.specs.declared.InnerCommand.{InnerCommand}
@@ -13,13 +14,6 @@ use Rattle.rules.specs.Link.{Durable, posting, withInner}
 use Rattle.link_direct.specs.Direct.{noted, sends}
 use Rattle.link_rows.specs.Rows.{durableIn, HeadLaid, Turned}
 use Rattle.link_notes.specs.Views.{Noted}
-
-pub sends-cons : (x : InnerCommand) (os : List InnerCommand) → sends (x ∷ os) ≡ sends (x ∷ []) + sends os
-unfolding sends
-sends-cons (inner.SetTimer t) os = omega arith
-sends-cons (inner.CancelTimer t) os = omega arith
-sends-cons (inner.Save v) os = omega arith
-sends-cons (inner.Send r p) os = omega arith
 
 pub noted-cons : (x : InnerCommand) (os : List InnerCommand) (d : Durable) → noted (x ∷ os) d ≡ noted os (noted (x ∷ []) d)
 unfolding noted
@@ -58,10 +52,6 @@ module _ (x : InnerCommand) (w : List ℕ) (p : List (List ℕ)) where
     after = q .after;
     head = q .head;
   })
-
-  pub note-sends : (r : Id) (y : Payload) → x ≡ inner.Send r y → sends (x ∷ []) ≡ 1
-  unfolding sends
-  note-sends r y e = rw e
 
 -- ---- on the way: what was noted so far, and the rest
 module _ (os : List InnerCommand) (w₀ : List ℕ) (p₀ : List (List ℕ)) where

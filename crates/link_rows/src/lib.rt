@@ -10,7 +10,7 @@ ghost use Rattle.lists.specs.Lists.{lead};
 ghost use Rattle.rules.specs.Link.{posting, withInner, acked};
 ghost use Rattle.link_rows.specs.Rows.{rowSize, other, Turned};
 
-// The words of a row and of a pending record: the definitions have them as rowSize and recordSize (specs/Rows).
+// The words of a row, which the definitions have as rowSize (specs/Rows), and of a pending record.
 pub const ROW: usize = 32;
 
 pub const RECORD: usize = 4;

@@ -78,7 +78,7 @@ module _ (event state : ℕ) (source : Id) (value : ℕ) where
     pub none-replies : used ≤ at → reply (rulesIn t used) event state source value ≡ record { touched = false; state = state; out = [] }
     none-replies h = let z = length-take-le used t (laid .fit) in decide (take used t) .1 (omega arith)
 
-    pub none-ignored : used ≤ at → ignored (reply (rulesIn t used) event state source value) ≡ true
+    none-ignored : used ≤ at → ignored (reply (rulesIn t used) event state source value) ≡ true
     unfolding ignored any
     none-ignored h = ap ignored (none-replies h)
 

@@ -1,4 +1,5 @@
-// A rule table as rows of words, lent: the place of the first rule that matches, and what its row says. A row: event and state in
+// A rule table as rows of words, lent: the place of the first rule that matches, and of the one that decides, and what a row says. A
+// row: event and state in
 // one number, low, high, touched, next, the count of commands, two words for each of four commands, the count of sends, whether it
 // sends or saves. The crate link_table_rows makes them.
 use types::Id;

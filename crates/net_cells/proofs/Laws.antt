@@ -3,12 +3,12 @@
 use Prim.Native.Nat.{ℕ, zero, suc, _+_, _*_, _/_, _%_, _≤_, _<_}
 use native.Mathlib.Nat.{mod-lt, mod-eq-of-lt, zero-lt-suc}
 use native.Mathlib.Omega.{arith}
-use mathlib.Core.Path.{_≡_, refl, sym, ap, ap₂, _∙_, subst}
+use mathlib.Core.Path.{_≡_, refl, sym, ap, ap₂, _∙_}
 use mathlib.Core.Bool.{Bool, true, false, not}
 use mathlib.Core.List.{List, [], _∷_, map}
 use lib.ListN.{getD, set}
 use lib.Dec.{ltb, leb, eqb}
-use borrow.Author.Tests.{lt-ltb, le-ltb, ltb-true, ltb-false, le-leb, lt-leb, eq-eqb, ne-eqb}
+use borrow.Author.Tests.{lt-ltb, le-ltb, le-leb, lt-leb, eq-eqb, ne-eqb}
 use Rattle.lists.specs.Lists.{chain, lead}
 use Rattle.lists.proofs.Sorted.{All}
 use Rattle.types.specs.declared.Message.{Message}
@@ -21,33 +21,11 @@ use Rattle.types.specs.declared.Entry.{Entry}
 use Rattle.types.specs.declared.Order.{Order}
 use Rattle.types.specs.declared.Order.the-variants.{Less, Equal, Greater}
 use Rattle.types.specs.Order.{cmpN, pickO, andThen, tagOf, numberOf, payloadOf, cmpEnvelope, cmpFlow, isLess, isEqual}
-use Rattle.types.proofs.Laws.{andThen-assoc, andThen-equal}
+use Rattle.types.proofs.Laws.{cmpN-less, cmpN-equal, cmpN-by, andThen-assoc, andThen-equal}
 use Rattle.net_cells.specs.Cells.{tags, payloads, headWith, cellOf, messageOf, entryOf, cmpCell, flowOf, Packed}
 
 -- ---- two numbers
-abbrev Says : ℕ → ℕ → Order → Type 0
-Says a b Less = a < b
-Says a b Equal = a ≡ b
-Says a b Greater = b < a
-
-says : (a b : ℕ) → Says a b (cmpN a b)
-says a b = go (ltb a b) (ltb b a) refl refl
-  where
-    go : (s t : Bool) → ltb a b ≡ s → ltb b a ≡ t → Says a b (pickO s Less (pickO t Greater Equal))
-    go true t e f = ltb-true a b e
-    go false true e f = ltb-true b a f
-    go false false e f = omega (arith, ltb-false a b e, ltb-false b a f)
-
-by : (a b : ℕ) (o : Order) → cmpN a b ≡ o → Says a b o
-by a b o e = subst (Says a b) e (says a b)
-
-pub less : (a b : ℕ) → a < b → cmpN a b ≡ Less
-less a b h = simp (lt-ltb a b h)
-
-pub equal : (a b : ℕ) → a ≡ b → cmpN a b ≡ Equal
-equal a b h = simp (le-ltb a b (omega arith), le-ltb b a (omega arith))
-
-pub greater : (a b : ℕ) → b < a → cmpN a b ≡ Greater
+greater : (a b : ℕ) → b < a → cmpN a b ≡ Greater
 greater a b h = simp (le-ltb a b (omega arith), lt-ltb b a h)
 
 -- ---- the order
@@ -58,13 +36,16 @@ module _ (s d t s' d' t' : ℕ) (hd : d < 256) (ht : t < tags) (hd' : d' < 256) 
       go
           : (o : Order) → cmpN s s' ≡ o → (p : Order) → cmpN d d' ≡ p → (q : Order) → cmpN t t' ≡ q
           → cmpN (headWith s d t) (headWith s' d' t') ≡ andThen o (andThen p q)
-      go Less e p f q g = less (headWith s d t) (headWith s' d' t') (omega (arith, by s s' Less e))
-      go Greater e p f q g = greater (headWith s d t) (headWith s' d' t') (omega (arith, by s s' Greater e))
-      go Equal e Less f q g = less (headWith s d t) (headWith s' d' t') (omega (arith, by s s' Equal e, by d d' Less f))
-      go Equal e Greater f q g = greater (headWith s d t) (headWith s' d' t') (omega (arith, by s s' Equal e, by d d' Greater f))
-      go Equal e Equal f Less g = less (headWith s d t) (headWith s' d' t') (omega (arith, by s s' Equal e, by d d' Equal f, by t t' Less g))
-      go Equal e Equal f Greater g = greater (headWith s d t) (headWith s' d' t') (omega (arith, by s s' Equal e, by d d' Equal f, by t t' Greater g))
-      go Equal e Equal f Equal g = equal (headWith s d t) (headWith s' d' t') (omega (arith, by s s' Equal e, by d d' Equal f, by t t' Equal g))
+      go Less e p f q g = cmpN-less (headWith s d t) (headWith s' d' t') (omega (arith, cmpN-by s s' Less e))
+      go Greater e p f q g = greater (headWith s d t) (headWith s' d' t') (omega (arith, cmpN-by s s' Greater e))
+      go Equal e Less f q g = cmpN-less (headWith s d t) (headWith s' d' t') (omega (arith, cmpN-by s s' Equal e, cmpN-by d d' Less f))
+      go Equal e Greater f q g = greater (headWith s d t) (headWith s' d' t') (omega (arith, cmpN-by s s' Equal e, cmpN-by d d' Greater f))
+      go Equal e Equal f Less g =
+          cmpN-less (headWith s d t) (headWith s' d' t') (omega (arith, cmpN-by s s' Equal e, cmpN-by d d' Equal f, cmpN-by t t' Less g))
+      go Equal e Equal f Greater g =
+          greater (headWith s d t) (headWith s' d' t') (omega (arith, cmpN-by s s' Equal e, cmpN-by d d' Equal f, cmpN-by t t' Greater g))
+      go Equal e Equal f Equal g =
+          cmpN-equal (headWith s d t) (headWith s' d' t') (omega (arith, cmpN-by s s' Equal e, cmpN-by d d' Equal f, cmpN-by t t' Equal g))
 
 tag-few : (m : Message) → tagOf m < tags
 tag-few (Deliver n p) = omega arith
@@ -99,11 +80,11 @@ flow-order s d s' d' h k = go (cmpN s' s) refl (cmpN d' d) refl
     go
         : (o : Order) → cmpN s' s ≡ o → (p : Order) → cmpN d' d ≡ p
         → leb (s * 256 + d) (s' * 256 + d') ≡ not (isLess (andThen o (andThen p Equal)))
-    go Less e p f = lt-leb (s * 256 + d) (s' * 256 + d') (omega (arith, by s' s Less e))
-    go Greater e p f = le-leb (s * 256 + d) (s' * 256 + d') (omega (arith, by s' s Greater e))
-    go Equal e Less f = lt-leb (s * 256 + d) (s' * 256 + d') (omega (arith, by s' s Equal e, by d' d Less f))
-    go Equal e Greater f = le-leb (s * 256 + d) (s' * 256 + d') (omega (arith, by s' s Equal e, by d' d Greater f))
-    go Equal e Equal f = le-leb (s * 256 + d) (s' * 256 + d') (omega (arith, by s' s Equal e, by d' d Equal f))
+    go Less e p f = lt-leb (s * 256 + d) (s' * 256 + d') (omega (arith, cmpN-by s' s Less e))
+    go Greater e p f = le-leb (s * 256 + d) (s' * 256 + d') (omega (arith, cmpN-by s' s Greater e))
+    go Equal e Less f = lt-leb (s * 256 + d) (s' * 256 + d') (omega (arith, cmpN-by s' s Equal e, cmpN-by d' d Less f))
+    go Equal e Greater f = le-leb (s * 256 + d) (s' * 256 + d') (omega (arith, cmpN-by s' s Equal e, cmpN-by d' d Greater f))
+    go Equal e Equal f = le-leb (s * 256 + d) (s' * 256 + d') (omega (arith, cmpN-by s' s Equal e, cmpN-by d' d Equal f))
 
 -- x is of a flow up to that of y
 pub cell-flows : (x y : Entry) → Narrow x → Narrow y → leb (flowOf (cellOf x)) (flowOf (cellOf y)) ≡ not (isLess (cmpFlow (y .envelope) (x .envelope)))
@@ -204,16 +185,16 @@ module _ (x k : List ℕ) where
       same-payload = rw past-number (go (cmpN (getD x 2 0) (getD k 2 0)) refl)
         where
           go : (o : Order) → cmpN (getD x 2 0) (getD k 2 0) ≡ o → eqb (getD x 2 0) (getD k 2 0) ≡ isEqual o
-          go Less e = ne-eqb (getD x 2 0) (getD k 2 0) (λ q. absurd (omega (arith, by (getD x 2 0) (getD k 2 0) Less e)))
-          go Equal e = eq-eqb (getD x 2 0) (getD k 2 0) (by (getD x 2 0) (getD k 2 0) Equal e)
-          go Greater e = ne-eqb (getD x 2 0) (getD k 2 0) (λ q. absurd (omega (arith, by (getD x 2 0) (getD k 2 0) Greater e)))
+          go Less e = ne-eqb (getD x 2 0) (getD k 2 0) (λ q. absurd (omega (arith, cmpN-by (getD x 2 0) (getD k 2 0) Less e)))
+          go Equal e = eq-eqb (getD x 2 0) (getD k 2 0) (cmpN-by (getD x 2 0) (getD k 2 0) Equal e)
+          go Greater e = ne-eqb (getD x 2 0) (getD k 2 0) (λ q. absurd (omega (arith, cmpN-by (getD x 2 0) (getD k 2 0) Greater e)))
 
     pub other-number : (getD x 1 0 ≡ getD k 1 0 → ⊥) → false ≡ isEqual (cmpCell x k)
     other-number n = rw past-head (go (cmpN (getD x 1 0) (getD k 1 0)) refl)
       where
         go : (o : Order) → cmpN (getD x 1 0) (getD k 1 0) ≡ o → false ≡ isEqual (andThen o (cmpN (getD x 2 0) (getD k 2 0)))
         go Less e = refl
-        go Equal e = absurd (n (by (getD x 1 0) (getD k 1 0) Equal e))
+        go Equal e = absurd (n (cmpN-by (getD x 1 0) (getD k 1 0) Equal e))
         go Greater e = refl
 
   pub other-head : (getD x 0 0 ≡ getD k 0 0 → ⊥) → false ≡ isEqual (cmpCell x k)
@@ -224,7 +205,7 @@ module _ (x k : List ℕ) where
           : (o : Order) → cmpN (getD x 0 0) (getD k 0 0) ≡ o
           → false ≡ isEqual (andThen o (andThen (cmpN (getD x 1 0) (getD k 1 0)) (cmpN (getD x 2 0) (getD k 2 0))))
       go Less e = refl
-      go Equal e = absurd (n (by (getD x 0 0) (getD k 0 0) Equal e))
+      go Equal e = absurd (n (cmpN-by (getD x 0 0) (getD k 0 0) Equal e))
       go Greater e = refl
 
 -- ---- an envelope once, and an entry with its count

@@ -1,4 +1,4 @@
--- An array filled place by place from another, and what stands in it.
+-- What was read back so far, and the cells that were laid out.
 -- Assumes nothing.
 use Prim.Native.Nat.{ℕ, _+_, _≤_, _<_}
 use native.Mathlib.Omega.{arith}

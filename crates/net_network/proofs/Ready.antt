@@ -23,7 +23,6 @@ use Rattle.rules.specs.Outcome.{done, guard, base}
 use Rattle.rules.specs.Network.{Net, sending, fits, send, fewer, remove, dropping, delivering, isDuplicating, onDeliver, onDrop}
 use Rattle.rules.specs.WellFormed.{countOk, inOrder, netOk}
 use Rattle.rules.proofs.FormedNetwork.{net-is, fewer-length}
-use Rattle.net_rows.specs.Views as rows
 use Rattle.net_rows.proofs.Ready as place
 use Rattle.net_network.specs.declared.Network.{Network}
 use Rattle.net_network.specs.Views.{zeroEntry, netView, networkOf, NetLaid, countFits, NetReady, sentOf}

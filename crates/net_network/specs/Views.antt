@@ -41,7 +41,7 @@ pub record NetReady (n : Network) : Type 0 where
   pub order : chain (inOrder (n .kind)) (entryList n) ≡ true
   pub counts : all countFits (entryList n) ≡ true
 
--- An answer with the network as it came.
+-- An answer with a network.
 abbrev pub back : Answer → Network → Sent
 back a n = record { answer = a; network = n }
 

@@ -13,6 +13,7 @@ use borrow.Author.Tests.{le-leb, lt-leb}
 use Rattle.lists.specs.Lists.{choose, chain, lead, ins}
 use Rattle.lists.proofs.Places.{lead-le}
 use Rattle.lists.proofs.Sorted.{All}
+use Rattle.lists.proofs.Members.{or-true}
 use Rattle.types.specs.declared.Envelope.{Envelope}
 use Rattle.types.specs.declared.Entry.{Entry}
 use Rattle.types.specs.declared.Kind.{Kind}
@@ -223,10 +224,6 @@ module _ {cs : List (List ℕ)} {used n : ℕ} (laid : NetLaid cs used n) where
         go (no k) =
             let z : 1 < getD l first zeroEntry .count = omega arith in
             rw (lt-leb (getD l first zeroEntry .count) 1 z) (sym (remove-one e zeroEntry l h z))
-
-    or-true : (b : Bool) → (b || true) ≡ true
-    or-true true = refl
-    or-true false = refl
 
     module _ (kind : Kind) (at : ℕ) (p : at ≡ first) where
       pub dropped

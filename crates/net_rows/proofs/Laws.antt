@@ -9,11 +9,11 @@ use mathlib.Core.List.{List, [], _∷_, map}
 use lib.ListN.{length, take, getD, set, length-set, length-map}
 use lib.Seq.{getD-take, length-take-le, take-set-lt}
 use lib.Dec.{leb}
-use borrow.Author.Tests.{le-leb, lt-leb, leb-true}
+use borrow.Author.Tests.{le-leb, lt-leb}
 use Rattle.lists.specs.Lists.{choose, all, lead, ins, del}
-use Rattle.lists.proofs.Places.{length-ins, lead-le, map-del, map-set}
-use Rattle.lists.proofs.Members.{and-both}
+use Rattle.lists.proofs.Places.{length-ins, lead-le, map-del, map-get, map-set}
 use Rattle.lists.proofs.Sorted.{All, all-at}
+use Rattle.rules.proofs.FormedNetwork.{len-most}
 use Rattle.types.specs.declared.Entry.{Entry}
 use Rattle.types.specs.declared.Kind.{Kind}
 use Rattle.types.specs.declared.Kind.the-variants.{UnorderedNonDuplicating}
@@ -38,11 +38,6 @@ module _ {A B : Type 0} (f : A → B) where
   map-ins zero a l = refl
   map-ins (suc at) a [] = refl
   map-ins (suc at) a (x ∷ l) = ap (λ (r : List B). f x ∷ r) (map-ins at a l)
-
-  map-get : (i : ℕ) (l : List A) (d : A) (e : B) → i < length l → getD (map f l) i e ≡ f (getD l i d)
-  map-get i [] d e h = absurd (not-suc-le-zero h)
-  map-get zero (x ∷ l) d e h = refl
-  map-get (suc i) (x ∷ l) d e h = map-get i l d e (le-of-suc-le-suc h)
 
 module _ {A : Type 0} (P : A → Type 0) where
   ins-all : (at : ℕ) (a : A) (l : List A) → P a → All P l → All P (ins at a l)
@@ -81,11 +76,6 @@ unfolding len
 len-set at a [] h = absurd (not-suc-le-zero h)
 len-set zero a (x ∷ l) h = omega arith
 len-set (suc at) a (x ∷ l) h = omega (arith, len-set at a l (le-of-suc-le-suc h))
-
-len-most : (l : List Entry) → all (λ x. leb (x .count) mostCopies) l ≡ true → len l ≤ mostCopies * length l
-unfolding len all
-len-most [] h = omega arith
-len-most (x ∷ l) h = let z = and-both (leb (x .count) mostCopies) _ h in omega (arith, leb-true (x .count) mostCopies (z .0), len-most l (z .1))
 
 len-some : (at : ℕ) (l : List Entry) → at < length l → getD l at zeroEntry .count ≤ len l
 len-some at l h = omega (arith, len-del at l h)

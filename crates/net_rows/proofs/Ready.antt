@@ -25,6 +25,7 @@ use Rattle.rules.proofs.FormedNetwork.{net-places, net-cuts}
 use Rattle.net_cells.specs.Cells.{cellOf}
 use Rattle.net_rows.specs.declared.Sent.{Sent}
 use Rattle.net_rows.specs.Views.{netOf, roomOf, NetReady, Changed}
+use Rattle.net_rows.proofs.Last.{delivered-kind}
 
 -- The order and the counts of the rules' network.
 pub record Orderly (m : Net) : Type 0 where
@@ -65,11 +66,6 @@ module _ (m : Net) (o : Orderly m) (e : Envelope) where
       go true = record { order = o .order; counts = o .counts }
       go false = drops
 
-  kept-kind : (b : Bool) → choose b (record { kind = m .kind; entries = m .entries; last = Delivered e }) (dropping e m) .kind ≡ m .kind
-  unfolding choose dropping
-  kept-kind true = refl
-  kept-kind false = refl
-
 module _ (k : Kind) (last : LastMessage) (cs : List (List ℕ)) (used n : ℕ) (ready : NetReady k cs used n) (r : Sent) (cs' : List (List ℕ)) where
   abbrev m : Net
   m = netOf k last cs used
@@ -108,4 +104,4 @@ module _ (k : Kind) (last : LastMessage) (cs : List (List ℕ)) (used n : ℕ) (
 
   pub deliver-ready : (e : Envelope) → Changed cs used n (onDeliver e m) r cs' → NetReady k cs' (r .used) (r .len)
   unfolding onDeliver delivering
-  deliver-ready e c = ready-left _ 3 _ (λ _. unfold delivering in delivers m orderly e) (kept-kind m orderly e (isDuplicating k)) c
+  deliver-ready e c = ready-left _ 3 _ (λ _. unfold delivering in delivers m orderly e) (delivered-kind e m) c

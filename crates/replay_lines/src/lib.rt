@@ -1,7 +1,6 @@
 // The lines of the program, each put into a lent buffer from a place on, or with `write` false only measured: a buffer
 // that is too small is left untouched, so the whole output is measured first, by the code that then writes it.
 // Each answers the place after what it put. A line starts at a place of up to 32 bits, so that no sum overflows.
-use answers::Answer;
 ghost use mathlib.Core.Path.{_≡_};
 ghost use mathlib.Core.List.{[], _∷_};
 ghost use Prim.Native.Nat.{_+_, _≤_};

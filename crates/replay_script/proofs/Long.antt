@@ -10,10 +10,10 @@ use lib.ListN.{length, drop, length-append}
 use lib.Dec.{eqb, leb}
 use borrow.Author.Tests.{eqb-true, leb-true}
 use Rattle.lists.specs.Lists.{all}
-use Rattle.lists.proofs.Members.{any-in, all-in, and-both}
+use Rattle.lists.proofs.Members.{any-in, all-in}
+use Rattle.rules.proofs.FormedNetwork.{len-most}
 use Rattle.types.specs.declared.Action.{Action}
-use Rattle.types.specs.Capacities.{mostBytes, mostCopies, mostEntries}
-use Rattle.types.specs.declared.Entry.{Entry}
+use Rattle.types.specs.Capacities.{mostBytes, mostEntries}
 use Rattle.types.specs.declared.Format.{Format}
 use Rattle.layout.specs.Read.{read}
 use Rattle.rules.specs.Outcome.{Outcome, done, refused, base}
@@ -42,13 +42,6 @@ fewer f s at (a ∷ l) (next r h g) =
     omega (arith, span f s at r h)
 
 -- ---- the length of a network is small
-len-most : (l : List Entry) → all (λ x. leb (x .count) mostCopies) l ≡ true → len l ≤ mostCopies * length l
-unfolding len all
-len-most [] h = omega arith
-len-most (x ∷ l) h =
-    let w = and-both (leb (x .count) mostCopies) _ h in
-    omega (arith, leb-true (x .count) mostCopies (w .0), len-most l (w .1))
-
 size-small : (m : Sys) → wellFormed base m ≡ true → size m < 18446744073709551616
 unfolding size
 size-small m w =

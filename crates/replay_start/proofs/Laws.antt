@@ -10,6 +10,7 @@ use borrow.Author.Tests.{le-leb}
 use Rattle.lists.specs.Lists.{all, pad}
 use Rattle.lists.proofs.Members.{and-make, every-make, every-nil}
 use Rattle.lists.proofs.Walks.{all-map, map-back}
+use Rattle.lists.proofs.Places.{pad-view}
 use Rattle.types.specs.Capacities.{mostActors, mostEntries, mostRules}
 use Rattle.types.specs.declared.Envelope.{Envelope}
 use Rattle.types.specs.declared.Format.{Format}
@@ -23,7 +24,6 @@ use Rattle.rules.specs.Script.{envelopesFrom, listsFrom, openingFrom}
 use Rattle.rules.proofs.Formats.{formats-fine}
 use Rattle.link_inner.specs.declared.Table.{Table}
 use Rattle.link_inner.specs.Views.{rulesOf}
-use Rattle.link_durable.proofs.Containers.{pad-view}
 use Rattle.link_inner.specs.Views.{tableAs, zeroTable}
 use Rattle.sys_system.specs.Views.{tableLaid, systemOf}
 use Rattle.sys_system.proofs.Tables.{rules-back, table-fits}

@@ -1,11 +1,11 @@
 -- An answer that is the image of a reading has its number and its values: what was put into an array is what is in use there.
 -- Assumes nothing.
-use Prim.Native.Nat.{ℕ, suc, _-_}
-use mathlib.Core.Path.{_≡_, refl, ap, ap₂, _∙_}
+use Prim.Native.Nat.{ℕ, _-_}
+use mathlib.Core.Path.{_≡_, refl, sym, ap, ap₂, _∙_}
 use mathlib.Core.List.{List, [], _∷_, map}
-use lib.ListN.{length, take, replicate}
-use lib.Seq.{take-append-seam}
+use lib.ListN.{length, take, length-map}
 use Rattle.lists.specs.Lists.{choose, pad}
+use Rattle.lists.proofs.Places.{pad-view}
 use Rattle.types.specs.Capacities.{mostActors, mostEntries, mostRules}
 use Rattle.types.specs.declared.Envelope.{Envelope}
 use Rattle.types.specs.declared.Rule.{Rule}
@@ -22,29 +22,20 @@ use Rattle.script_opening.specs.declared.OpeningRead.{OpeningRead}
 use Rattle.script_opening.specs.Views.{tableRead, tablesRead, zeroEnvelope, envelopesRead, openingRead}
 use Rattle.script_opening.specs.Says.{tableSays, tablesSays, envelopesSays, openingSays}
 
--- What is in use of a padded array is the list.
-in-use : {A : Type 0} (n : ℕ) (z : A) (l : List A) → take (length l) (pad n z l) ≡ l
-unfolding pad
-in-use n z l = take-append-seam l (replicate (n - length l) z)
-
 -- The structs of lists of rules hold them.
 rules-in : (l : List (List Rule)) → map rulesOf (map tableAs l) ≡ l
 rules-in [] = refl
-rules-in (rs ∷ l) = ap₂ _∷_ (in-use mostRules zeroRule rs) (rules-in l)
-
-as-long : (l : List (List Rule)) → length l ≡ length (map tableAs l)
-as-long [] = refl
-as-long (rs ∷ l) = ap suc (as-long l)
+rules-in (rs ∷ l) = ap₂ _∷_ (pad-view mostRules zeroRule rs) (rules-in l)
 
 tables-in : (l : List (List Rule)) → map rulesOf (take (length l) (pad mostActors zeroTable (map tableAs l))) ≡ l
 tables-in l =
-    ap (λ (n : ℕ). map rulesOf (take n (pad mostActors zeroTable (map tableAs l)))) (as-long l)
-    ∙ ap (map rulesOf) (in-use mostActors zeroTable (map tableAs l))
+    ap (λ (n : ℕ). map rulesOf (take n (pad mostActors zeroTable (map tableAs l)))) (sym (length-map l tableAs))
+    ∙ ap (map rulesOf) (pad-view mostActors zeroTable (map tableAs l))
     ∙ rules-in l
 
 table-law : (m : Reading (List Rule)) → tableSays (tableRead m) ≡ readingSays m
 unfolding choose
-table-law (read l xs p) = ap (λ (k : List Rule). said 0 (k ∷ []) (p ∷ [])) (in-use mostRules zeroRule l)
+table-law (read l xs p) = ap (λ (k : List Rule). said 0 (k ∷ []) (p ∷ [])) (pad-view mostRules zeroRule l)
 table-law (badAt p) = refl
 
 pub table-both : (m : Reading (List Rule)) {r : TableRead} → r ≡ tableRead m → Both tableRead tableSays readingSays m r
@@ -60,7 +51,7 @@ tables-both m e = both tablesRead tablesSays readingSays m (tables-law m) e
 
 envelopes-law : (m : Reading (List Envelope)) → envelopesSays (envelopesRead m) ≡ readingSays m
 unfolding choose
-envelopes-law (read l xs p) = ap (λ (k : List Envelope). said 0 (k ∷ []) (p ∷ [])) (in-use mostEntries zeroEnvelope l)
+envelopes-law (read l xs p) = ap (λ (k : List Envelope). said 0 (k ∷ []) (p ∷ [])) (pad-view mostEntries zeroEnvelope l)
 envelopes-law (badAt p) = refl
 
 pub envelopes-both : (m : Reading (List Envelope)) {r : EnvelopesRead} → r ≡ envelopesRead m → Both envelopesRead envelopesSays readingSays m r
@@ -73,7 +64,7 @@ opening-law (read o xs p) =
       version = o .version;
       kind = o .kind;
       tables = tables-in (o .tables) i;
-      envelopes = in-use mostEntries zeroEnvelope (o .envelopes) i;
+      envelopes = pad-view mostEntries zeroEnvelope (o .envelopes) i;
     } ∷ []) (p ∷ [])
 opening-law (badAt p) = refl
 

@@ -13,7 +13,7 @@ use Rattle.lists.specs.Lists.{choose}
 use Rattle.layout.specs.Bits.{fieldAt}
 use Rattle.layout.specs.Form.{Form, filled, refuse, field, Reached, reached, stuck, got, bad, follow, then, bytesFor, wholeOf, padded, recordOf}
 use Rattle.layout.specs.Read.{Reading, read, badAt, placed, one}
-use Rattle.layout.proofs.Laws.{onReached, follow-then, then-reached}
+use Rattle.layout.proofs.Laws.{then-reached, stuck-first}
 use Rattle.script_places.specs.declared.Ending.{Ending}
 use Rattle.script_places.specs.declared.Ending.the-variants as ending
 use Rattle.script_places.specs.Views.{endingOf}
@@ -84,7 +84,7 @@ module _ {A B : Type 0} (xs : List ℕ) (at : ℕ) (f : Form A) (k : A → B) wh
   then-at h = then-reached xs f (λ x. filled (k x)) at h refl
 
   pub then-stuck : follow xs f at ≡ stuck → follow xs (then f (λ x. filled (k x))) at ≡ stuck
-  then-stuck h = follow-then xs f (λ x. filled (k x)) at ∙ ap (λ (g : Reached A). onReached g (λ a n. reached (k a) n)) h
+  then-stuck h = stuck-first xs f (λ x. filled (k x)) at h
 
 -- ---- a form whose first fields are known
 module _ (xs : List ℕ) where

@@ -1,5 +1,5 @@
-// The records of a script. Each is read at a place, as the script's format says: the answer is the value with the place after it, or the
-// place of the bad record.
+// The records of a script but its rules. Each is read at a place, as the script's format says: the answer is the value with the place
+// after it, or the place of the bad record.
 use script_bits::cut;
 use script_bits::cut8;
 use script_bits::cut32;

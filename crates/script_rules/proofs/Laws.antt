@@ -14,7 +14,7 @@ use Rattle.lists.specs.Lists.{pad}
 use Rattle.lists.proofs.Places.{laid-room, laid-append}
 use Rattle.layout.specs.Bits.{fieldAt}
 use Rattle.layout.specs.Form.{Form, filled, refuse, Reached, reached, stuck, follow, then, times, only}
-use Rattle.layout.proofs.Laws.{onReached, follow-then, fed, follow-only, follow-not, then-reached, then-found}
+use Rattle.layout.proofs.Laws.{onReached, follow-then, fed, follow-only, follow-not, then-reached, stuck-first, then-found}
 use Rattle.types.specs.Capacities.{mostCommands}
 use Rattle.types.specs.declared.Format.{Format}
 use Rattle.types.specs.declared.RuleCommand.{RuleCommand}
@@ -29,9 +29,6 @@ use Rattle.script_rules.specs.declared.CommandsPart.{CommandsPart}
 use Rattle.script_rules.specs.Views.{commandsPart, ruleWith, commandPart}
 
 -- One of so many is stuck: all of them are.
-stuck-first : {A B : Type 0} (xs : List ℕ) (f : Form A) (k : A → Form B) (at : ℕ) → follow xs f at ≡ stuck → follow xs (then f k) at ≡ stuck
-stuck-first xs f k at h = follow-then xs f k at ∙ ap (λ g. onReached g (λ a n. follow xs (k a) n)) h
-
 pub times-stuck
     : {A : Type 0} (xs : List ℕ) (f : Form A) (i k at : ℕ) {l : List A} {m : ℕ} → follow xs (times i f) at ≡ reached l m → follow xs f m ≡ stuck
     → follow xs (times (i + suc k) f) at ≡ stuck

@@ -44,6 +44,15 @@ pub seat-none : (n : ℕ) (a : Action) (i : Id) → i ≡ target a → ltb (i .0
 unfolding seat choose
 seat-none n a i e h = subst (λ (j : Id). ltb (j .0) n ≡ false → 0 ≡ seat n a) (sym e) (λ k. rw k) h
 
+-- The actor of an action is one of them, or the first.
+pub seat-in : (n : ℕ) (a : Action) → 1 ≤ n → seat n a < n
+unfolding seat choose
+seat-in n a h = go (ltb (target a .0) n) refl
+  where
+    go : (b : Bool) → ltb (target a .0) n ≡ b → choose b (target a .0) 0 < n
+    go true e = ltb-true (target a .0) n e
+    go false e = omega arith
+
 seat-is : (count : ℕ) (a : Action) → ltb (target a .0) count ≡ true → seatOf count a ≡ target a
 unfolding seat choose
 seat-is count a h = rw h

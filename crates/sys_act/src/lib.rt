@@ -15,7 +15,6 @@ ghost use Prim.Native.Nat.{_≤_};
 ghost use lib.ListN.{length};
 ghost use lib.Dec.{ltb};
 ghost use Rattle.types.specs.Capacities.{mostActors};
-ghost use Rattle.types.specs.declared.Action.the-variants as action;
 ghost use Rattle.net_rows.specs.Views.{NetReady};
 ghost use Rattle.link_rows.specs.Rows.{rowSize};
 ghost use Rattle.link_tables.specs.Rows.{TableLaid, rulesIn};

@@ -9,7 +9,7 @@ use lib.ListN.{length, take}
 use lib.Dec.{leb, lit≤}
 use borrow.Author.Tests.{leb-true, le-leb, eqb-true}
 use Rattle.types.specs.Capacities.{mostPending, mostActors, lastState, network}
-use Rattle.lists.specs.Lists.{choose, all, every}
+use Rattle.lists.specs.Lists.{choose, every}
 use Rattle.lists.proofs.Members.{every-cons, every-make, every-nil, all-in, all-make, not-true}
 use Rattle.lists.proofs.Chains.{chain-is, is-chain}
 use Rattle.types.specs.declared.Rule.{Rule}
@@ -110,7 +110,7 @@ pub fine-laid-out : (k : ℕ) (a : Actor) → actorFine k a ≡ true → actorLa
 unfolding actorLaid
 fine-laid-out k a e = let f = fine-is k a e in every-make _ _ (fine-laid k _ (f .durable)) (every-make _ _ (stored-laid k _ (f .stored)) every-nil)
 
-stored-parts : (s : Stored) → storedLaid s ≡ true → durableLaid (s .durable) ≡ true
+pub stored-parts : (s : Stored) → storedLaid s ≡ true → durableLaid (s .durable) ≡ true
 unfolding storedLaid
 stored-parts s e = every-cons _ _ e .0
 

@@ -4,13 +4,10 @@ use Prim.Native.Nat.{ℕ, _≤_, _<_}
 use native.Mathlib.Omega.{arith}
 use native.Mathlib.Decide.{ℕ-discrete}
 use mathlib.Core.Path.{_≡_, refl, sym, ap, _∙_, subst}
-use mathlib.Core.Bool.{Bool, true, false}
 use mathlib.Core.List.{List, []}
 use lib.ListN.{length, set, length-set}
 use lib.Seq.{getD-set-same, getD-set-other, set-getD}
-use lib.Dec.{ltb}
-use borrow.Author.Tests.{ltb-true}
-use Rattle.lists.specs.Lists.{choose}
+use Rattle.sys_act.proofs.Acts.{seat-in}
 use Rattle.types.specs.Capacities.{mostActors, mostEntries, mostCopies, mostPending}
 use Rattle.types.specs.declared.Id.{Id}
 use Rattle.types.specs.declared.Kind.{Kind}
@@ -23,18 +20,9 @@ use Rattle.net_rows.specs.Views.{netOf}
 use Rattle.sys_seat.specs.Seat.{Around}
 use Rattle.sys_reacts.specs.Views.{limitsOf}
 use Rattle.sys_moves.specs.Views.{Rows, actorAt, sysAt, capsOf, Fine, Stepped, lastThen}
-use Rattle.sys_act.specs.Seats.{target, seat, seatOf}
+use Rattle.sys_act.specs.Seats.{seat, seatOf}
 use Rattle.sys_all_rows.specs.Views.{each, Hall, Books, rowsAt, rulesAt, sysOf, Sized, Stands, Moved}
 use Rattle.sys_all_rows.proofs.Places.{length-each, each-set}
-
--- The actor of an action is one of them, or the first.
-pub seat-in : (n : ℕ) (a : Action) → 1 ≤ n → seat n a < n
-unfolding seat choose
-seat-in n a h = go (ltb (target a .0) n) refl
-  where
-    go : (b : Bool) → ltb (target a .0) n ≡ b → choose b (target a .0) 0 < n
-    go true e = ltb-true (target a .0) n e
-    go false e = omega arith
 
 -- ---- rows put back
 abbrev pub put : ℕ → Rows → Hall → Hall

@@ -56,7 +56,7 @@ module _ (number last state : ℕ) (source : Id) (payload : ℕ) (t : List (List
     by : (b : Bool) → leb number last ≡ b → at ≡ choose b rules (decidingOf 2 state source payload t rules)
     by b q = chosen ∙ rw q
 
-    pub only-acked : rules ≤ at → onlyAcked number last (rulesIn t rules) state source payload ≡ true
+    only-acked : rules ≤ at → onlyAcked number last (rulesIn t rules) state source payload ≡ true
     unfolding choose
     only-acked h = go (leb number last) refl
       where
@@ -64,7 +64,7 @@ module _ (number last state : ℕ) (source : Id) (payload : ℕ) (t : List (List
         go true q = refl
         go false q = place-idle 2 state source payload t rules at laid (by false q) h
 
-    pub takes : at < rules → (onlyAcked number last (rulesIn t rules) state source payload ≡ false)
+    takes : at < rules → (onlyAcked number last (rulesIn t rules) state source payload ≡ false)
         × (reply (rulesIn t rules) 2 state source payload ≡ replied (getD t at []) source payload)
     unfolding choose
     takes h = go (leb number last) refl

@@ -22,7 +22,7 @@ use Rattle.types.specs.declared.LastMessage.{LastMessage}
 use Rattle.rules.specs.Outcome.{Outcome, done, refused, bind}
 use Rattle.rules.specs.Inner.{Reply, reply, ignored}
 use Rattle.rules.specs.Network.{Net, onDeliver}
-use Rattle.rules.specs.Link.{Durable, Did, Output, Link, Send, Save, untaken, lastOf, lastTaken, acked, withTaken, acking, ackedBy, takenBy, handing, output}
+use Rattle.rules.specs.Link.{Durable, Did, Output, Link, Send, Save, untaken, lastOf, lastTaken, withTaken, acking, ackedBy, takenBy, handing, output}
 use Rattle.rules.specs.Link.{onMsg}
 use Rattle.rules.specs.System.{Sys, withLink, runCommands}
 use Rattle.net_rows.specs.Views.{netOf, roomOf}

@@ -6,6 +6,7 @@ use mathlib.Core.Path.{_≡_, refl, sym, ap, _∙_}
 use mathlib.Core.Bool.{true, false}
 use mathlib.Core.List.{List, [], _∷_}
 use lib.ListN.{length, take}
+use Rattle.link_direct.proofs.Laws.{sends-cons}
 use Rattle.types.specs.Capacities.{mostCopies}
 use Rattle.types.specs.declared.Id.{Id}
 use Rattle.types.specs.declared.Kind.{Kind}
@@ -23,13 +24,6 @@ use Rattle.answers.specs.Answers.{isDone}
 use Rattle.sys_emits.specs.declared.Emitted.{Emitted}
 use Rattle.sys_emits.specs.Views.{sysIn, Ran, Went}
 use Rattle.sys_emits.proofs.Laws.{not-both}
-
-sends-cons : (x : InnerCommand) (os : List InnerCommand) → sends (x ∷ os) ≡ sends (x ∷ []) + sends os
-unfolding sends
-sends-cons (inner.SetTimer t) os = omega arith
-sends-cons (inner.CancelTimer t) os = omega arith
-sends-cons (inner.Save v) os = omega arith
-sends-cons (inner.Send r p) os = omega arith
 
 room-same : (cs cs' : List (List ℕ)) → length cs' ≡ length cs → roomOf cs' ≡ roomOf cs
 room-same cs cs' e = λ j. record { entries = e j; copies = mostCopies }

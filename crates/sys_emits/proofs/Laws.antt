@@ -5,7 +5,7 @@ use native.Mathlib.Omega.{arith}
 use native.Mathlib.Numerals.{add-one, unary-clauses}
 use mathlib.Core.Path.{_≡_, refl, sym, ap, _∙_}
 use mathlib.Core.Bool.{Bool, true, false}
-use mathlib.Core.List.{List, [], _∷_}
+use mathlib.Core.List.{List, _∷_}
 use lib.ListN.{take}
 use Rattle.types.specs.declared.Id.{Id}
 use Rattle.types.specs.declared.Payload.{Payload}
@@ -164,7 +164,3 @@ module _ (kind : Kind) (me : Id) (x : InnerCommand) (cs : List (List ℕ)) (used
     onward = send-on kind me cs used w next left some d p n s cs' ch;
     stops = send-stops kind me cs used w next left some d p n s cs' ch;
   })
-
-  pub sends-one : (d : Id) (p : Payload) → x ≡ inner.Send d p → sends (x ∷ []) ≡ 1
-  unfolding sends
-  sends-one d p q = rw q

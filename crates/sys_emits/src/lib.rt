@@ -10,7 +10,6 @@ use types::InnerCommand;
 use types::Kind;
 use types::Message;
 use types::Number;
-use types::Payload;
 ghost use mathlib.Core.List.{[], _∷_};
 ghost use Prim.Native.Nat.{_+_, _≤_, _<_};
 ghost use lib.ListN.{take};

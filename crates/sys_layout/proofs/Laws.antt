@@ -8,7 +8,7 @@ use mathlib.Core.Option.{none, some}
 use mathlib.Core.List.{List, []}
 use lib.ListN.{length, getD, set}
 use Rattle.lists.specs.Lists.{choose}
-use Rattle.lists.proofs.Members.{every-cons}
+use Rattle.sys_actor.proofs.Laws.{stored-parts}
 use Rattle.types.specs.Capacities.{mostPending, mostActors, lastState}
 use Rattle.types.specs.declared.Rule.{Rule}
 use Rattle.rules.specs.Link as rules
@@ -57,10 +57,6 @@ module _ (d : rules.Durable) (five six seven : ℕ) (hp : length (d .pending) �
     };
   }
 
-pub stored-durable : (s : Stored) → storedLaid s ≡ true → durableLaid (s .durable) ≡ true
-unfolding storedLaid
-stored-durable s e = every-cons _ _ e .0
-
 -- The marks, put in place.
 pub with-mark : (d : rules.Durable) (b : Bool) (six seven : ℕ) (r : List ℕ) → r ≡ rowWith d 0 0 0 → b ≡ true
     → set (set (set r 6 six) 7 seven) 5 1 ≡ rowWith d (bit b) six seven
@@ -105,7 +101,7 @@ module _ (a : Actor) where
     pub laid-out : LaidOut a live (recordsOf d) kept (recordsOf e)
     laid-out =
         let m = durable-small (a .link .durable) l1 in
-        let n = durable-small (a .stored .durable) (stored-durable (a .stored) l2) in
+        let n = durable-small (a .stored .durable) (stored-parts (a .stored) l2) in
         record {
           actor = laid-view;
           live = rows-laid d (bit (a .crashed)) (a .timers .0) (a .link .state) (m .0) (m .1) f1 hv ht hs;

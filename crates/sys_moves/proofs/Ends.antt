@@ -11,7 +11,7 @@ use Rattle.types.specs.declared.Rule.{Rule}
 use Rattle.types.specs.declared.LastMessage.{LastMessage}
 use Rattle.answers.specs.declared.Answer.{Answer}
 use Rattle.answers.specs.Answers.{answerNumber, isDone}
-use Rattle.rules.specs.Outcome.{Outcome, done, refused}
+use Rattle.rules.specs.Outcome.{Outcome, refused}
 use Rattle.rules.specs.System.{Sys}
 use Rattle.net_rows.specs.declared.Sent.{Sent}
 use Rattle.sys_seat.specs.Seat.{Around}

@@ -1,12 +1,12 @@
 -- A rule's commands: the link's output, run, is what the code does.
 -- Assumes nothing.
-use Prim.Native.Nat.{ℕ, zero, suc, _+_, _-_, _≤_}
+use Prim.Native.Nat.{ℕ, suc, _+_, _-_, _≤_}
 use native.Mathlib.Omega.{arith}
 use mathlib.Core.Path.{_≡_, refl, sym, ap, _∙_}
 use mathlib.Core.Bool.{Bool, true, false}
 use mathlib.Core.List.{List, [], _∷_, _++_}
 use lib.ListN.{length, take, getD, length-map}
-use lib.Seq.{length-take-le}
+use lib.Seq.{length-take-le, take-all}
 use Rattle.lists.specs.Lists.{choose, any}
 use Rattle.types.specs.Capacities.{mostPending, mostCommands, mostTold}
 use Rattle.types.specs.declared.Id.{Id}
@@ -77,12 +77,6 @@ asked-few n (inner.SetTimer t ∷ os) = let z = asked-few n os in omega arith
 asked-few n (inner.CancelTimer t ∷ os) = let z = asked-few n os in omega arith
 asked-few n (inner.Save v ∷ os) = let z = asked-few n os in omega arith
 asked-few n (inner.Send r p ∷ os) = let z = asked-few (suc n) os in omega arith
-
-pub take-all : {A : Type 0} (n : ℕ) (l : List A) → length l ≤ n → take n l ≡ l
-take-all zero [] h = refl
-take-all zero (x ∷ l) h = absurd (omega arith)
-take-all (suc n) [] h = refl
-take-all {A} (suc n) (x ∷ l) h = ap (λ (r : List A). x ∷ r) (take-all n l (omega arith))
 
 -- ---- the end of a run
 module _ (me : Id) (kind : Kind) (os : List InnerCommand) (t s used n : ℕ) (x : Rows) (fine : Fine kind used n x) where

@@ -29,10 +29,10 @@ use Rattle.sys_moves.specs.Views.{Rows, actorAt, sysAt, Ended}
 pub same-done : (o : Outcome Sys) (p q : Sys) → o ≡ done p → o ≡ done q → p ≡ q
 same-done o p q a b = cc
 
-pub same-refused : (o : Outcome Sys) (j k : ℕ) → o ≡ refused j → o ≡ refused k → j ≡ k
+same-refused : (o : Outcome Sys) (j k : ℕ) → o ≡ refused j → o ≡ refused k → j ≡ k
 same-refused o j k a b = cc
 
-pub done-answer : (a : Answer) → isDone a ≡ true → a ≡ Done
+done-answer : (a : Answer) → isDone a ≡ true → a ≡ Done
 done-answer a h = number-inj a Done (eqb-true (answerNumber a) 0 h)
 
 -- Answers that tell one outcome are one.

@@ -8,6 +8,8 @@ use mathlib.Core.Option.{some}
 use mathlib.Core.List.{List, [], _∷_, _++_, append-assoc}
 use lib.ListN.{length, take, getD}
 use Rattle.lists.specs.Lists.{choose, any, lead}
+use lib.Seq.{take-all}
+use Rattle.lists.proofs.Members.{or-true}
 use Rattle.net_slots.proofs.Tests.{any-yes, any-no}
 use Rattle.types.specs.Capacities.{mostPending, mostCommands, mostTold}
 use Rattle.types.specs.declared.Id.{Id}
@@ -41,13 +43,13 @@ use Rattle.sys_emits.proofs.Laws.{not-both}
 use Rattle.sys_reacts.specs.declared.First.{First}
 use Rattle.sys_reacts.specs.declared.First.the-variants as first
 use Rattle.sys_reacts.specs.Views.{limitsOf, refusalOf, frontOf, following, there, Safe}
-use Rattle.sys_reacts.proofs.Laws.{goes-on, refuses}
+use Rattle.sys_reacts.proofs.Laws.{refuses}
 use Rattle.sys_reacts.proofs.Deliver.{deliver-is}
 use Rattle.sys_rows.specs.Rows.{RowsLaid, Settled, Noticed, Kept}
 use Rattle.sys_rows.proofs.Laws.{as-stored, stored-laid}
 use Rattle.sys_rows.proofs.Sources.{noticed-word}
 use Rattle.sys_moves.specs.Views.{Rows, actorWith, running, takenIn, Decided, Fine, Acted}
-use Rattle.sys_moves.proofs.Laws.{places-are, outputs, refused-output, asked-few, take-all}
+use Rattle.sys_moves.proofs.Laws.{places-are, outputs, refused-output, asked-few}
 
 module _ (source : Id) (number : Number) (os : List InnerCommand) (w : List ℕ) (p : List (List ℕ)) (laid : RowsLaid w p) (w1 : List ℕ)
     (note : Noticed (source .0) (number .0) w w1) where
@@ -73,10 +75,6 @@ module _ (source : Id) (number : Number) (os : List InnerCommand) (w : List ℕ)
 -- ---- 3 before 6 and 7
 module _ (kind : Kind) (e : Envelope) (cs : List (List ℕ)) (used n : ℕ) (ready : NetReady kind cs used n) (why : Answer) (at : ℕ)
     (first : at ≡ lead (λ x. not (same e (x .envelope))) (entryList cs used)) where
-  or-true : (b : Bool) → (b || true) ≡ true
-  or-true true = refl
-  or-true false = refl
-
   pub is-there : at < used → why ≡ choose (there kind e cs used) why Absent
   unfolding there present choose
   is-there h =
@@ -139,11 +137,6 @@ module _ (kind : Kind) (e : Envelope) (v : Number) (os : List InnerCommand) (s u
 
     least : length (d .pending) ≤ mostPending
     least = let a = fine .live .pending in let b = places in omega arith
-
-    pub enough : isDone why ≡ true → (getD w 0 0 + sends os ≤ 18446744073709551615) × (getD w 1 0 + sends os ≤ mostPending)
-    enough g =
-        let z = goes-on (e .dst) d mostPending os why as-view few least g in
-        (let a = z .0 in let b = next-is in omega arith, let a = z .1 in let b = places in omega arith)
 
     pub taken-refused : isDone why ≡ false → (b : Answer) → b ≡ choose (there kind e (x .cells) used) why Absent → (cs' : List (List ℕ)) → cs'
         ≡ x .cells

@@ -10,6 +10,7 @@ use lib.Dec.{leb}
 use Rattle.types.specs.Capacities.{mostCopies}
 use Rattle.lists.specs.Lists.{choose, cut}
 use Rattle.lists.proofs.Members.{cut-length}
+use Rattle.rules.proofs.FormedNetwork.{fewer-length}
 use Rattle.types.specs.declared.Id.{Id}
 use Rattle.types.specs.declared.Number.{Number}
 use Rattle.types.specs.declared.Kind.{Kind}
@@ -44,11 +45,6 @@ use Rattle.sys_reacts.specs.declared.First.the-variants as first
 use Rattle.sys_reacts.specs.Views.{frontOf, there, entering, following, Tried, Safe}
 
 -- ---- a delivery leaves at most as many entries and messages
-few-left : (x : Entry) (b : Bool) → length (choose b [] (lowered x ∷ [])) ≤ 1
-unfolding choose
-few-left x true = omega arith
-few-left x false = omega arith
-
 less-left : (x : Entry) (l : List Entry) (b : Bool) → len (choose b [] (lowered x ∷ []) ++ l) ≤ x .count + len l
 unfolding choose len lowered
 less-left x l true = omega arith
@@ -66,12 +62,12 @@ cut-len p (x ∷ l) = go (p x) (cut-len p l)
 
 module _ (e : Envelope) (m : Net) where
   fewer-entries : length (delivering e m .entries) ≤ length (m .entries)
-  unfolding delivering dropping remove choose fewer
+  unfolding delivering dropping remove choose
   fewer-entries = go (isDuplicating (m .kind))
     where
       go : (b : Bool) → length (choose b (record { kind = m .kind; entries = m .entries; last = Got e }) (dropping e m) .entries) ≤ length (m .entries)
       go true = omega arith
-      go false = cut-length _ fewer (λ x. few-left x (leb (x .count) 1)) (m .entries)
+      go false = cut-length _ fewer fewer-length (m .entries)
 
   fewer-messages : len (delivering e m .entries) ≤ len (m .entries)
   unfolding delivering dropping remove choose

@@ -127,7 +127,7 @@ fn acked_row(
     )
 }
 
-// What goes first, and the commands of a row.
+// What goes first, and the commands of a row, the first `limit` with its Ack. After an 8 the cells are the caller's to put back.
 fn run_row(
     c: &mut [[u64; 4]],
     kind: Kind,

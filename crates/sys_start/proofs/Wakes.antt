@@ -1,6 +1,6 @@
 -- Actors woken in turn: each on fresh rows, as the rules wake it in the system.
 -- Assumes nothing.
-use Prim.Native.Nat.{ℕ, zero, suc, _≤_, _<_}
+use Prim.Native.Nat.{ℕ, suc, _≤_, _<_}
 use native.Mathlib.Omega.{arith}
 use mathlib.Core.Path.{_≡_, refl, sym, ap, ap₂, subst, _∙_}
 use mathlib.Core.Bool.{true, false}
@@ -8,9 +8,9 @@ use mathlib.Core.List.{List, [], _∷_, _++_, map, append-assoc, append-nil}
 use lib.ListN.{length, take, drop, getD, set, replicate, length-map, length-append, drop-of-length-le}
 use lib.Seq.{drop-cons, take-suc, getD-take, length-take-le}
 use Rattle.types.specs.Capacities.{mostActors, mostEntries, mostPending}
-use Rattle.lists.specs.Lists.{_∈_, all, pad}
+use Rattle.lists.specs.Lists.{_∈_, pad}
 use Rattle.lists.proofs.Members.{all-in, get-in}
-use Rattle.lists.proofs.Places.{append-pad}
+use Rattle.lists.proofs.Places.{append-pad, map-get}
 use Rattle.types.specs.declared.Id.{Id}
 use Rattle.types.specs.declared.Kind.{Kind}
 use Rattle.types.specs.declared.Rule.{Rule}
@@ -121,11 +121,6 @@ set-behind : {A : Type 0} (l m : List A) (a b : A) → set (l ++ a ∷ m) (lengt
 set-behind [] m a b = refl
 set-behind {A = A} (c ∷ l) m a b = ap (λ (r : List A). c ∷ r) (set-behind l m a b)
 
-get-map : {A B : Type 0} (g : A → B) (l : List A) (i : ℕ) (z : B) (d : A) → i < length l → getD (map g l) i z ≡ g (getD l i d)
-get-map g [] i z d h = absurd (omega arith)
-get-map g (x ∷ l) zero z d h = refl
-get-map g (x ∷ l) (suc i) z d h = get-map g l i z d (omega arith)
-
 -- ---- all of them
 -- After i actors, which are bs now: the rest from here gives what all of them give from the start.
 pub record Waking (k : Kind) (cs₀ : List (List ℕ)) (used₀ count : ℕ) (tables : List Table) (cs : List (List ℕ)) (used n : ℕ) (actors : List Actor)
@@ -191,8 +186,8 @@ module _ (k : Kind) (cs₀ : List (List ℕ)) (used₀ n₀ count : ℕ) (tables
     sleeper =
         let c = counted in
         let m = length-map (take count tables) rulesOf in
-        get-map unstarted (tablesView count tables) i (unstarted []) [] (omega arith)
-        ∙ ap unstarted (get-map rulesOf (take count tables) i [] z (omega arith) ∙ ap rulesOf at-place)
+        map-get unstarted i (tablesView count tables) [] (unstarted []) (omega arith)
+        ∙ ap unstarted (map-get rulesOf i (take count tables) z [] (omega arith) ∙ ap rulesOf at-place)
 
     split : drop i all-asleep ≡ fresh ∷ rest
     split = let m = asleep-many in drop-cons all-asleep i (unstarted []) (omega arith) ∙ ap (λ (b : rules.Actor). b ∷ rest) sleeper

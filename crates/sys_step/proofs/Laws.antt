@@ -6,12 +6,12 @@ use mathlib.Core.Path.{_≡_, refl, sym, ap, _∙_, subst}
 use mathlib.Core.Bool.{Bool, true, false, true≢false, false≢true}
 use mathlib.Core.List.{[], _∷_, map}
 use lib.ListN.{length, getD, length-map}
-use lib.Dec.{ltb}
-use borrow.Author.Tests.{ltb-true, leb-true}
+use borrow.Author.Tests.{leb-true}
 use Rattle.types.specs.Capacities.{mostActors, lastState}
 use Rattle.lists.specs.Lists.{choose, every}
 use Rattle.lists.proofs.Members.{every-cons}
 use Rattle.lists.proofs.Places.{length-pad, get-any}
+use Rattle.sys_act.proofs.Acts.{seat-in}
 use Rattle.types.specs.declared.Id.{Id}
 use Rattle.types.specs.declared.Action.{Action}
 use Rattle.answers.specs.declared.Answer.the-variants.{Done}
@@ -33,7 +33,7 @@ use Rattle.sys_actor.specs.declared.Actor.{Actor}
 use Rattle.sys_actor.specs.Views.{actorAs, actorFine, zeroActor}
 use Rattle.sys_actor.proofs.Laws.{fine-is, actor-kept}
 use Rattle.sys_seat.specs.Seat.{holding}
-use Rattle.sys_act.specs.Seats.{target, seat, seatOf}
+use Rattle.sys_act.specs.Seats.{seat, seatOf}
 use Rattle.sys_system.specs.declared.System.{System}
 use Rattle.sys_system.specs.Views.{seated, sysView, SystemLaid, systemFine, tableFor}
 use Rattle.sys_system.proofs.Laws.{formed-of, counted, net-ready, seat-ok, actor-at, table-is-ok, image-laid, system-back}
@@ -41,15 +41,6 @@ use Rattle.sys_answered.specs.Views.{Ready, answeredOf}
 use Rattle.sys_step.specs.declared.Touched.{Touched}
 use Rattle.sys_step.specs.Views.{stepOf, Touchable, Touches, putTouched}
 use Rattle.sys_step.proofs.Seats.{sized, hall, held-own, put-system}
-
--- ---- the seat of an action
-seat-in : (n : ℕ) (a : Action) → 1 ≤ n → seat n a < n
-unfolding seat choose
-seat-in n a h = go (ltb (target a .0) n) refl
-  where
-    go : (b : Bool) → ltb (target a .0) n ≡ b → choose b (target a .0) 0 < n
-    go true e = ltb-true (target a .0) n e
-    go false e = omega arith
 
 module _ (s : System) (r : Ready s) (a : Action) where
   abbrev m : rules.Sys

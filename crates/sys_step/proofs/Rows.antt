@@ -19,7 +19,6 @@ use Rattle.answers.specs.Answers.{answerNumber, isDone}
 use Rattle.rules.specs.Outcome.{done, refused, base}
 use Rattle.rules.specs.Network.{Net, len}
 use Rattle.rules.specs.System.{systems, act}
-use Rattle.rules.specs.System as rules
 use Rattle.net_cells.specs.Cells.{entryOf}
 use Rattle.net_layout.specs.Layout.{LaidOut}
 use Rattle.net_rows.specs.declared.Sent.{Sent}

@@ -1,6 +1,6 @@
 -- What the test of a system says: one that passes is laid out and well formed; and the struct of a well-formed system passes.
 -- Assumes nothing.
-use Prim.Native.Nat.{ℕ, suc, _≤_, _<_}
+use Prim.Native.Nat.{ℕ, _≤_, _<_}
 use native.Mathlib.Omega.{arith}
 use mathlib.Core.Path.{_≡_, refl, sym, ap, subst, _∙_}
 use mathlib.Core.Bool.{Bool, true, false}
@@ -12,7 +12,7 @@ use borrow.Author.Tests.{leb-true, le-leb}
 use Rattle.types.specs.Capacities.{mostEntries, mostActors}
 use Rattle.lists.specs.Lists.{_∈_, all, every, pad}
 use Rattle.lists.proofs.Members.{every-cons, every-make, every-nil, all-in, all-make, and-both, and-make, get-in}
-use Rattle.lists.proofs.Places.{length-pad, getD-pad}
+use Rattle.lists.proofs.Places.{length-pad, getD-pad, map-get, pad-view}
 use Rattle.lists.proofs.Walks.{all-map}
 use Rattle.types.specs.declared.Id.{Id}
 use Rattle.types.specs.declared.Rule.{Rule}
@@ -25,7 +25,6 @@ use Rattle.net_network.proofs.Changes.{held}
 use Rattle.net_network.proofs.Ready.{ready-of-ok, viewed, laid-of}
 use Rattle.net_formed.specs.Formed.{laidOut, netFormed}
 use Rattle.net_formed.proofs.Laws.{laid-out, laid-passes}
-use Rattle.link_durable.proofs.Containers.{pad-view}
 use Rattle.link_inner.specs.declared.Table.{Table}
 use Rattle.link_inner.specs.Views.{tableOk}
 use Rattle.sys_actor.specs.declared.Actor.{Actor}
@@ -41,11 +40,6 @@ use Rattle.sys_system.proofs.Seats.{zip-length, actors-again, tables-ag
 
 pub take-in : {A : Type 0} (n : ℕ) (l : List A) (x : A) → x ∈ take n l → x ∈ l
 take-in {A} n l x m = subst (λ (k : List A). x ∈ k) (take-append-drop n l) (Memᴰ·append-left (drop n l) m)
-
-get-map : {A B : Type 0} (g : A → B) (l : List A) (i : ℕ) (z : B) (d : A) → i < length l → getD (map g l) i z ≡ g (getD l i d)
-get-map g [] i z d h = absurd (omega arith)
-get-map g (x ∷ l) ℕ.zero z d h = refl
-get-map g (x ∷ l) (suc i) z d h = get-map g l i z d (omega arith)
 
 -- Two tests that pass together are one.
 pub same-true : (a b : Bool) → (a ≡ true → b ≡ true) → (b ≡ true → a ≡ true) → a ≡ b
@@ -213,13 +207,13 @@ module _ (s : System) (laid : SystemLaid s) (ok : wellFormed base (sysView s) �
     unfolding rules.actor
     actor-at =
         ap (λ (x : System). getD (x .actors) (i .0) zeroActor) laid ∙ getD-pad zeroActor mostActors (i .0) (map actorAs l)
-        ∙ get-map actorAs l (i .0) zeroActor (rules.unstarted []) inside
+        ∙ map-get actorAs (i .0) l (rules.unstarted []) zeroActor inside
 
     pub table-at : getD (s .tables) (i .0) zeroTable ≡ tableFor here
     unfolding rules.actor
     table-at =
         ap (λ (x : System). getD (x .tables) (i .0) zeroTable) laid ∙ getD-pad zeroTable mostActors (i .0) (map tableFor l)
-        ∙ get-map tableFor l (i .0) zeroTable (rules.unstarted []) inside
+        ∙ map-get tableFor (i .0) l (rules.unstarted []) zeroTable inside
 
     pub actor-view : seated (getD (s .tables) (i .0) zeroTable) (getD (s .actors) (i .0) zeroActor) ≡ here
     actor-view =

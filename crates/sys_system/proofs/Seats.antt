@@ -1,4 +1,4 @@
--- Actors beside their tables: the list that they are seen bs, and the arrays that hold it.
+-- Actors beside their tables: the list that they are seen as, and the arrays that hold it.
 -- Assumes nothing.
 use Prim.Native.Nat.{ℕ, zero, suc, _<_}
 use native.Mathlib.Omega.{arith}

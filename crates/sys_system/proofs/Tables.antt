@@ -13,12 +13,11 @@ use Rattle.link_inner.proofs.Tables.{blank-is}
 use Rattle.types.specs.Capacities.{mostRules}
 use Rattle.lists.specs.Lists.{_∈_, all, every, pad}
 use Rattle.lists.proofs.Members.{and-both, every-cons, every-make, every-nil}
-use Rattle.lists.proofs.Places.{laid-length}
+use Rattle.lists.proofs.Places.{laid-length, pad-view}
 use Rattle.types.specs.declared.Rule.{Rule}
 use Rattle.rules.specs.WellFormed.{zeroCommand, unused, sound}
 use Rattle.link_inner.specs.declared.Table.{Table}
 use Rattle.link_inner.specs.Views.{rulesOf, blankRule, tableOk}
-use Rattle.link_durable.proofs.Containers.{pad-view}
 use Rattle.link_inner.specs.Views.{zeroRule, tableAs, zeroTable}
 use Rattle.sys_system.specs.Views.{TableLaid, tableLaid, blankTable}
 use Rattle.sys_system.proofs.Types.{TableTyped}

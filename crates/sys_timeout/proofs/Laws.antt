@@ -6,7 +6,7 @@ use mathlib.Core.Path.{_≡_, refl, sym, ap, _∙_, subst}
 use mathlib.Core.Bool.{true, false}
 use mathlib.Core.List.{List, [], _∷_, map}
 use lib.ListN.{length, take, getD, set, length-set}
-use lib.Seq.{getD-set-same, getD-set-other}
+use lib.Seq.{getD-set-same, getD-set-other, take-all}
 use lib.Dec.{leb, eqb}
 use borrow.Author.Tests.{le-leb, lt-leb, ne-eqb}
 use Rattle.types.specs.Capacities.{network, mostPending}
@@ -42,7 +42,7 @@ use Rattle.sys_reacts.specs.Views.{Safe}
 use Rattle.sys_rows.specs.Rows.{actorOf, RowsLaid, Settled}
 use Rattle.sys_rows.proofs.Laws.{state-small, aside, aside-head, tail-marks, as-settled}
 use Rattle.sys_moves.specs.Views.{Rows, capsOf, actorAt, sysAt, reacting, Fine, Acted, Stepped, lastThen}
-use Rattle.sys_moves.proofs.Laws.{places-are, take-all}
+use Rattle.sys_moves.proofs.Laws.{places-are}
 use Rattle.sys_moves.proofs.Ends.{ended-by, ended-refused}
 use Rattle.sys_timeout.proofs.Timed.{far-is, unset-is, timed-is, idle-is, quiet-is, resends-are}
 

@@ -5,11 +5,12 @@ use native.Mathlib.Omega.{arith}
 use Prim.Native.Nat.{_+_, _≤_, _<_, _-_}
 use mathlib.Core.Path.{_≡_, refl, ap}
 use lib.ListN.{length, getD, drop}
+use Rattle.link_direct.proofs.Laws.{sends-cons}
 use Rattle.link_rows.specs.Rows.{rowSize}
 use Rattle.link_tables.specs.Rows.{orders}
 use Rattle.link_tables.proofs.Told.{split-at, orders-end}
 use Rattle.link_direct.specs.Direct.{sends}
-use Rattle.link_notes.proofs.Laws.{Along, along-step, along-end, sends-cons}
+use Rattle.link_notes.proofs.Laws.{Along, along-step, along-end}
 use Rattle.link_notes.proofs.note.Statement.{statement}
 use Rattle.link_notes.proofs.note.Tie as tie
 

@@ -1,6 +1,7 @@
 -- `link_notes::note_one` meets its contract. By the command: nothing, a value saved, or a message posted.
 -- Assumes nothing.
-use Rattle.link_notes.proofs.Laws.{note-set, note-cancel, note-save, note-send, note-sends}
+use Rattle.link_direct.proofs.Laws.{sends-one}
+use Rattle.link_notes.proofs.Laws.{note-set, note-cancel, note-save, note-send}
 use native.Mathlib.Omega.{arith}
 use borrow.Author.Needs.{needs}
 use Rattle.link_notes.proofs.note_one.Statement.{statement}
@@ -33,7 +34,7 @@ cast-post-2 c = search needs
 post-requires : tie.Need-post-requires
 post-requires c κs =
     let s = c .before .before .before .before .before .before .before .before in
-    let z = note-sends (s .args .x) (s .args .live .now) (s .args .pend .now) _ _ (c .before .before .before .before .before .x2 .given .1) in
+    let z = sends-one (s .args .x) _ _ (c .before .before .before .before .before .x2 .given .1) in
     let p = s .pre .0 in
     let q = s .pre .1 in
     let r = s .pre .2 in

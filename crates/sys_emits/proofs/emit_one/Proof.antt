@@ -2,7 +2,8 @@ use mathlib.Core.Path.{ap, _∙_}
 use Rattle.link_timers.specs.declared.Change.{Change}
 use Rattle.link_timers.specs.Views.{listed}
 use Rattle.link_timers.proofs.Listed.{listed-set, listed-cancel}
-use Rattle.sys_emits.proofs.Laws.{went-set, went-cancel, went-save, went-send, sends-one}
+use Rattle.link_direct.proofs.Laws.{sends-one}
+use Rattle.sys_emits.proofs.Laws.{went-set, went-cancel, went-save, went-send}
 use borrow.Author.Needs.{needs}
 use Rattle.sys_emits.proofs.emit_one.Statement.{statement}
 use Rattle.sys_emits.proofs.emit_one.Tie as tie
@@ -37,8 +38,7 @@ send-requires c κs = search needs
 add-t33 : tie.Need-add-t33
 add-t33 c =
     let s = c .before .before .before .before .before .before in
-    let z = sends-one (s .args .kind) (s .args .me) (s .args .x) (s .args .c .now) (s .args .used) (s .args .len) (s .args .timers) (s .args .next)
-    (s .args .left) (s .pre .0) (s .pre .1) _ _ (c .before .before .before .before .x3 .given .1) in
+    let z = sends-one (s .args .x) _ _ (c .before .before .before .before .x3 .given .1) in
     search needs
 
 sub-t34 : tie.Need-sub-t34

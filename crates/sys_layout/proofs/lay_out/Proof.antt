@@ -1,6 +1,7 @@
 -- `sys_layout::lay_out` meets its contract. The four rows are the actor's, as the functions that make them say.
 -- Assumes nothing.
-use Rattle.sys_layout.proofs.Laws.{stored-durable, laid-out}
+use Rattle.sys_actor.proofs.Laws.{stored-parts}
+use Rattle.sys_layout.proofs.Laws.{laid-out}
 use borrow.Author.Needs.{needs}
 use Rattle.sys_layout.proofs.lay_out.Statement.{statement}
 use Rattle.sys_layout.proofs.lay_out.Tie as tie
@@ -14,12 +15,12 @@ pending-rows-requires c κs = search needs
 stored-row-requires : tie.Need-stored-row-requires
 stored-row-requires c κs =
     let s = c .before .before .before .before .before .before in
-    stored-durable (s .args .a .stored) (s .pre .1)
+    stored-parts (s .args .a .stored) (s .pre .1)
 
 pending-rows-requires-2 : tie.Need-pending-rows-requires-2
 pending-rows-requires-2 c κs =
     let s = c .before .before .before .before .before .before .before in
-    stored-durable (s .args .a .stored) (s .pre .1)
+    stored-parts (s .args .a .stored) (s .pre .1)
 
 returns : tie.Need-returns
 returns c =

@@ -4,7 +4,8 @@ use Rattle.link_tables.specs.Rows.{orders}
 use Rattle.link_tables.proofs.Told.{row-four}
 use Rattle.sys_moves.specs.Views.{Rows, rowsOf}
 use Rattle.sys_rows.proofs.Laws.{timers-small}
-use Rattle.sys_moves.proofs.Taken.{enough, taken-refused, taken-full, taken-done}
+use Rattle.sys_moves.proofs.Laws.{enough}
+use Rattle.sys_moves.proofs.Taken.{taken-refused, taken-full, taken-done}
 use borrow.Author.Needs.{needs}
 use Rattle.sys_moves.proofs.on_message.Statement.{statement}
 use Rattle.sys_moves.proofs.on_message.Tie as tie
@@ -48,7 +49,7 @@ react-row-requires c κs =
     let os = orders (a .row .now) (a .e .src) (a .value) in
     let x : Rows = rowsOf (a .c .now) (a .live .now) (a .pend .now) (a .kept .now) (a .stored .now) in
     let why = d .before .before .refusal-of in
-    let g = enough (a .kind) (a .e) (a .number) os (a .state) (a .used) (a .len) x (s .pre .0) (why .result) (why .ensures (a .e .src) (a .value))
+    let g = enough (a .e .dst) (a .kind) os 0 (a .state) (a .used) (a .len) x (s .pre .0) (why .result) (why .ensures (a .e .src) (a .value))
     (sym (d .before .is-done .ensures) ∙ not-false _ (d .if1 .left)) in
     (s .pre .0 .net, s .pre .1, g .0, s .pre .0 .room)
 
@@ -64,7 +65,7 @@ returns-2 c =
     let os = orders (a .row .now) (a .e .src) (a .value) in
     let x : Rows = rowsOf (a .c .now) (a .live .now) (a .pend .now) (a .kept .now) (a .stored .now) in
     let why = d .before .before .refusal-of in
-    let g = enough (a .kind) (a .e) (a .number) os (a .state) (a .used) (a .len) x (s .pre .0) (why .result) (why .ensures (a .e .src) (a .value))
+    let g = enough (a .e .dst) (a .kind) os 0 (a .state) (a .used) (a .len) x (s .pre .0) (why .result) (why .ensures (a .e .src) (a .value))
     (sym (d .before .is-done .ensures) ∙ not-false _ (d .if1 .left)) in
     let y = b .before .before .react-row in
     taken-full (a .kind) (a .e) (a .number) os (a .state) (a .used) (a .len) x (s .pre .0) (g .0) (g .1)
@@ -80,7 +81,7 @@ take-in-requires c κs =
     let os = orders (a .row .now) (a .e .src) (a .value) in
     let x : Rows = rowsOf (a .c .now) (a .live .now) (a .pend .now) (a .kept .now) (a .stored .now) in
     let why = d .before .before .refusal-of in
-    let g = enough (a .kind) (a .e) (a .number) os (a .state) (a .used) (a .len) x (s .pre .0) (why .result) (why .ensures (a .e .src) (a .value))
+    let g = enough (a .e .dst) (a .kind) os 0 (a .state) (a .used) (a .len) x (s .pre .0) (why .result) (why .ensures (a .e .src) (a .value))
     (sym (d .before .is-done .ensures) ∙ not-false _ (d .if1 .left)) in
     (s .pre .1, s .pre .0 .live, s .pre .2, s .pre .3, g .1, g .0, s .pre .0 .kept .places)
 
@@ -93,7 +94,7 @@ returns-3 c =
     let os = orders (a .row .now) (a .e .src) (a .value) in
     let x : Rows = rowsOf (a .c .now) (a .live .now) (a .pend .now) (a .kept .now) (a .stored .now) in
     let why = d .before .before .refusal-of in
-    let g = enough (a .kind) (a .e) (a .number) os (a .state) (a .used) (a .len) x (s .pre .0) (why .result) (why .ensures (a .e .src) (a .value))
+    let g = enough (a .e .dst) (a .kind) os 0 (a .state) (a .used) (a .len) x (s .pre .0) (why .result) (why .ensures (a .e .src) (a .value))
     (sym (d .before .is-done .ensures) ∙ not-false _ (d .if1 .left)) in
     let z = c .take-in in
     let y = b .before .before .react-row in
