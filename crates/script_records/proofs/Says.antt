@@ -14,28 +14,28 @@ use Rattle.script_records.specs.declared.ActionRead.{ActionRead}
 use Rattle.script_records.specs.Views.{headerRead, countRead, envelopeRead, actionRead}
 use Rattle.script_records.specs.Says.{headerSays, countSays, envelopeSays, actionSays}
 
-header-law : (m : Reading Header) → headerSays (headerRead m) ≡ readingSays m
+pub header-law : (m : Reading Header) → headerSays (headerRead m) ≡ readingSays m
 header-law (read h xs p) = refl
 header-law (badAt p) = refl
 
 abbrev pub header-tells : Telling Header HeaderRead
 header-tells = record { image = headerRead; says = headerSays; law = header-law }
 
-count-law : (m : Reading ℕ) → countSays (countRead m) ≡ readingSays m
+pub count-law : (m : Reading ℕ) → countSays (countRead m) ≡ readingSays m
 count-law (read c xs p) = refl
 count-law (badAt p) = refl
 
 abbrev pub count-tells : Telling ℕ CountRead
 count-tells = record { image = countRead; says = countSays; law = count-law }
 
-envelope-law : (m : Reading Envelope) → envelopeSays (envelopeRead m) ≡ readingSays m
+pub envelope-law : (m : Reading Envelope) → envelopeSays (envelopeRead m) ≡ readingSays m
 envelope-law (read e xs p) = refl
 envelope-law (badAt p) = refl
 
 abbrev pub envelope-tells : Telling Envelope EnvelopeRead
 envelope-tells = record { image = envelopeRead; says = envelopeSays; law = envelope-law }
 
-action-law : (m : Reading Item) → actionSays (actionRead m) ≡ readingSays m
+pub action-law : (m : Reading Item) → actionSays (actionRead m) ≡ readingSays m
 action-law (read end xs p) = refl
 action-law (read (item a) xs p) = refl
 action-law (badAt p) = refl

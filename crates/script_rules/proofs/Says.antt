@@ -9,7 +9,7 @@ use Rattle.script_places.proofs.Says.{Telling}
 use Rattle.script_rules.specs.declared.RuleRead.{RuleRead}
 use Rattle.script_rules.specs.Views.{ruleRead, ruleSays}
 
-rule-law : (m : Reading Rule) → ruleSays (ruleRead m) ≡ readingSays m
+pub rule-law : (m : Reading Rule) → ruleSays (ruleRead m) ≡ readingSays m
 unfolding choose
 rule-law (read r xs p) = refl
 rule-law (badAt p) = refl
