@@ -96,7 +96,7 @@ pub fn command_at(r: &[u64], i: usize, source: Id, value: u32) -> InnerCommand
 }
 
 // A rule that neither touches nor commands ignores the event.
-pub fn is_ignored(r: &[u64]) -> bool
+fn is_ignored(r: &[u64]) -> bool
     requires { ⌜ RowLaid (now r) ⌝ }
     ensures { λ x. ⌜ ((source : Id) (value : ℕ) → x ≡ ignored (replied (now (r .entry)) source value)) ⌝ }
 {

@@ -79,7 +79,7 @@ fn count_up(c: &mut [[u64; 4]], used: usize, len: u64, at: usize) -> Sent
 }
 
 // One copy less of the cell at a place; the last one takes the cell along.
-pub fn take_out(c: &mut [[u64; 4]], used: usize, len: u64, at: usize) -> Sent
+fn take_out(c: &mut [[u64; 4]], used: usize, len: u64, at: usize) -> Sent
     requires { ⌜ NetLaid (now c) used len × (at < used) ⌝ }
     ensures { λ r. ⌜ TakesOut at (now (c .entry)) used len r (now (c .exit)) ⌝ }
 {
