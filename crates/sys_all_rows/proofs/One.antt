@@ -16,15 +16,16 @@ use Rattle.sys_moves.specs.Views.{lastThen}
 use Rattle.sys_moves.proofs.One.{same-done, same-answer, same-counts}
 use Rattle.sys_all_rows.specs.Views.{Hall, Books, sysOf, Moved}
 
-module _ (count : ℕ) (a : Action) (kind : Kind) (used n : ℕ) (b : Books) (cs : List (List ℕ)) (h : Hall) (r s : Sent) (ys zs : List (List ℕ)) (y z : Hall)
-    (p : Moved count a kind used n b cs h r ys y) (q : Moved count a kind used n b cs h s zs z) where
+module _ (count : ℕ) (a : Action) (kind : Kind) (used n : ℕ) (b : Books) (cs : List (List ℕ)) (h : Hall) (r s : Sent)
+    (ys zs : List (List ℕ)) (y z : Hall) (p : Moved count a kind used n b cs h r ys y) (q : Moved count a kind used n b cs h s zs z) where
   pub one-answer : r .answer ≡ s .answer
   one-answer = same-answer (systems (act base (sysOf count kind Nothing cs used b h) a)) (r .answer) (s .answer) _ _
       (λ t. p .runs t Nothing) (λ f. p .stops f Nothing) (λ t. q .runs t Nothing) (λ f. q .stops f Nothing)
 
   -- Done: the rows are one system, counted alike.
   module _ (t : isDone (r .answer) ≡ true) where
-    pub one-system : (last : LastMessage) → sysOf count kind (lastThen kind a last) ys (r .used) b y ≡ sysOf count kind (lastThen kind a last) zs (s .used) b z
+    pub one-system : (last : LastMessage) → sysOf count kind (lastThen kind a last) ys (r .used) b y
+        ≡ sysOf count kind (lastThen kind a last) zs (s .used) b z
     one-system last =
         same-done (systems (act base (sysOf count kind last cs used b h) a)) _ _ (p .runs t last) (q .runs (ap isDone (sym one-answer) ∙ t) last)
 

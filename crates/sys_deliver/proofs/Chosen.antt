@@ -69,7 +69,8 @@ module _ (number last state : ℕ) (source : Id) (payload : ℕ) (t : List (List
     unfolding choose
     takes h = go (leb number last) refl
       where
-        go : (b : Bool) → leb number last ≡ b → (acked b ≡ false) × (reply (rulesIn t rules) 2 state source payload ≡ replied (getD t at []) source payload)
+        go : (b : Bool) → leb number last ≡ b → (acked b ≡ false)
+            × (reply (rulesIn t rules) 2 state source payload ≡ replied (getD t at []) source payload)
         go true q = let z : at ≡ rules = by true q in absurd (omega arith)
         go false q =
             (place-counts 2 state source payload t rules at laid (by false q) h, place-replies 2 state source payload t rules at laid (by false q) h)

@@ -77,8 +77,8 @@ returns-2 c =
     let d = c .before .before .before .before .before .before .before .before .before .deciding in
     let h : d .result < a .rules = omega (arith, c .before .before .before .before .before .before .before .before .if1 .left) in
     let i = place-counts 3 (getD w 7 0) nobody (a .timer) (a .table .now) (a .rules) (d .result) (s .pre .1) (d .ensures nobody) h in
-    let e = ap (λ (r : Reply). r .out) (place-replies 3 (getD w 7 0) nobody (a .timer) (a .table .now) (a .rules) (d .result) (s .pre .1) (d .ensures nobody) h)
-    in
+    let says = place-replies 3 (getD w 7 0) nobody (a .timer) (a .table .now) (a .rules) (d .result) (s .pre .1) (d .ensures nobody) h in
+    let e = ap (λ (r : Reply). r .out) says in
     let x = c .by-rule in
     λ count.
     timed (a .me) count (rulesIn (a .table .now) (a .rules)) (a .kind) (a .used) (a .len)
