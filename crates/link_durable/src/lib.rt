@@ -1,4 +1,6 @@
 // The link's durable part: ordered arrays in structs with a count, and the tests of any content.
+#![tactic(auto)]
+
 ghost use Rattle.std.specs.Prelude.{◌≡◌, true, ◌≤◌, ◌<◌, take, drop, leb};
 ghost use Rattle.lists.specs.Lists.{all, chain, ends_in};
 ghost use Rattle.types.specs.Capacities.{most_pending, most_actors};
@@ -12,20 +14,20 @@ ghost use Rattle.link_durable.specs.Views.{durable_fine, stored_fine};
 use types::{Id, MOST_ACTORS, MOST_PENDING, Number, Payload, Pending, Storage};
 
 // Messages sent and not acked, ascending by number. Places from the used count on are zero.
-#[derive(Drop)]
+#[derive(Clone, Copy)]
 pub struct Pendings {
     pub records: [Pending; MOST_PENDING],
     pub used: usize,
 }
 
 // At place s the number last taken from source s. Places from the used count on are zero.
-#[derive(Drop)]
+#[derive(Clone, Copy)]
 pub struct Taken {
     pub last: [Number; MOST_ACTORS],
     pub used: usize,
 }
 
-#[derive(Drop)]
+#[derive(Clone, Copy)]
 pub struct Durable {
     pub next: Number,
     pub pending: Pendings,
@@ -34,14 +36,14 @@ pub struct Durable {
 }
 
 // What an actor has stored. Where `some` is false nothing is, and the durable part is all zero.
-#[derive(Drop)]
+#[derive(Clone, Copy)]
 pub struct Stored {
     pub some: bool,
     pub durable: Durable,
 }
 
 // The live part of a link: its durable part, and the state of the inner actor.
-#[derive(Drop)]
+#[derive(Clone, Copy)]
 pub struct Link {
     pub durable: Durable,
     pub state: u8,

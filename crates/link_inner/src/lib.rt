@@ -1,4 +1,6 @@
 // The inner actor's table: rules in an array with a count, and the test of whatever it holds.
+#![tactic(auto)]
+
 ghost use Rattle.std.specs.Prelude.{◌≡◌, not, ◌&&◌, ◌||◌, ◌≤◌, take, drop, leb, eqb};
 ghost use Rattle.lists.specs.Lists.{all};
 ghost use Rattle.types.specs.Capacities.{most_commands, most_rules};
@@ -8,7 +10,7 @@ ghost use Rattle.link_inner.specs.Views.{command_passes, slot_passes, ranges, ze
 use types::{Id, LAST_STATE, MOST_COMMANDS, MOST_RULES, NETWORK, Rule, RuleCommand, Slot};
 
 // Places from the used count on hold the zero rule.
-#[derive(Drop)]
+#[derive(Clone, Copy)]
 pub struct Table {
     pub rules: [Rule; MOST_RULES],
     pub used: usize,

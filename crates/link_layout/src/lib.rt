@@ -1,4 +1,6 @@
 // The durable part of an actor between its struct and its rows: laid out, and back.
+#![tactic(auto)]
+
 ghost use Rattle.std.specs.Prelude.{◌≡◌, true, map, ◌≤◌, ◌<◌, length, take, drop};
 ghost use Rattle.types.specs.Capacities.{most_pending, most_actors};
 ghost use Rattle.link_durable.specs.Views.{pending_list, pendings_of, taken_list, taken_as, durable_view, durable_as, durable_laid};

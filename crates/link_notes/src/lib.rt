@@ -1,5 +1,7 @@
 // What a rule's commands make of the durable part, in place: sends become pending, values are saved. Network and timers are not
 // touched.
+#![tactic(auto)]
+
 ghost use Rattle.std.specs.Prelude.{◌≡◌, [], ◌∷◌, ◌+◌, ◌≤◌, ◌<◌, length, get_or};
 ghost use Rattle.link_rows.specs.Rows.{row_size};
 ghost use Rattle.link_direct.specs.Direct.{sends};

@@ -1,6 +1,8 @@
 // The durable part of an actor as rows of words, lent: a message becomes pending, the inner actor saves a value, a
 // number is acked. A row: next number, count of pending records, whether a value is saved, the value, the count of sources, and from
 // place 8 on the numbers last taken. A pending record: number, destination, payload. The other places are free.
+#![tactic(auto)]
+
 ghost use Rattle.std.specs.Prelude.{◌≡◌, List, ℕ, ◌+◌, ◌≤◌, ◌<◌, length, take, get_or};
 ghost use Rattle.lists.specs.Lists.{lead};
 ghost use Rattle.rules.specs.Link.{posting, with_inner, acked};

@@ -1,5 +1,7 @@
 // A rule table laid out as rows of words, once, for the crate link_tables to look up. A rule's counts are taken here: what its
 // commands send or save does not depend on what is filled in.
+#![tactic(auto)]
+
 ghost use Rattle.std.specs.Prelude.{◌≡◌, true, map, ◌≤◌, ◌<◌, replicate};
 ghost use Rattle.lists.specs.Lists.{pad};
 ghost use Rattle.types.specs.Capacities.{most_commands, most_rules};
@@ -12,7 +14,7 @@ use link_inner::Table;
 use types::{MOST_RULES, Rule, RuleCommand};
 
 // A command's two words; 1 or 0: whether it sends, and whether it sends or saves.
-#[derive(Drop)]
+#[derive(Clone, Copy)]
 struct Words {
     head: u64,
     word: u64,

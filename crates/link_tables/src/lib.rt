@@ -2,6 +2,8 @@
 // row: event and state in
 // one number, low, high, touched, next, the count of commands, two words for each of four commands, the count of sends, whether it
 // sends or saves. The crate link_table_rows makes them.
+#![tactic(auto)]
+
 ghost use Rattle.std.specs.Prelude.{◌≡◌, ◌&&◌, ℕ, ◌/◌, ◌≤◌, ◌<◌, length, get_or, leb, eqb};
 ghost use Rattle.lists.specs.Lists.{choose};
 ghost use Rattle.types.specs.Capacities.{most_commands};

@@ -1,4 +1,6 @@
 // The timers of an actor: a set, one bit of a word each. Network is the last one, and those below it are the user's.
+#![tactic(auto)]
+
 ghost use Rattle.std.specs.Prelude.{◌≡◌};
 ghost use Rattle.rules.specs.Timers.{no_timers, is_set, count_timers};
 ghost use Rattle.link_timers.specs.Views.{listed, timers_of, set_of, cancel_of, first_from};
@@ -6,18 +8,18 @@ ghost use Rattle.link_timers.specs.Views.{listed, timers_of, set_of, cancel_of, 
 use types::NETWORK;
 
 // Bit t is timer t.
-#[derive(Drop)]
+#[derive(Clone, Copy)]
 pub struct Timers(pub u32);
 
 // The set after a change that was asked for, and whether it is another than before.
-#[derive(Drop)]
+#[derive(Clone, Copy)]
 pub struct Change {
     pub changed: bool,
     pub timers: Timers,
 }
 
 // What a look for the next timer finds.
-#[derive(Drop)]
+#[derive(Clone, Copy)]
 pub enum Found {
     Timer(u8),
     Nothing,

@@ -1,5 +1,7 @@
 // An entry as four words: its head (source, destination and tag in one number), number, payload, count. The order of
 // entries is that of the first three words.
+#![tactic(auto)]
+
 ghost use Rattle.std.specs.Prelude.{◌≡◌, ◌%◌, ◌≤◌, ◌<◌, get_or};
 ghost use Rattle.rules.specs.Network.{single};
 ghost use Rattle.types.specs.Capacities.{most_copies};

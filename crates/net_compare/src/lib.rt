@@ -1,4 +1,6 @@
 // The order of envelopes in code: source, destination, Deliver before Ack, number, payload; and the tests that come of it.
+#![tactic(auto)]
+
 ghost use Rattle.std.specs.Prelude.{◌≡◌};
 ghost use Rattle.types.specs.Order.{cmp_n, and_then, tag_of, number_of, payload_of, cmp_flow, cmp_message, cmp_envelope, is_less, is_equal, same};
 
@@ -29,7 +31,7 @@ pub fn and_then(a: Order, b: Order) -> Order
 }
 
 // What a message is compared by.
-#[derive(Drop)]
+#[derive(Clone, Copy)]
 struct Key {
     tag: u64,
     number: u64,

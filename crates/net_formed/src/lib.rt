@@ -1,4 +1,6 @@
 // Whether a network is well formed, asked of any content that the struct can hold.
+#![tactic(auto)]
+
 ghost use Rattle.std.specs.Prelude.{◌≡◌, true, ◌≤◌, take};
 ghost use Rattle.std.proofs.Math.Seq.{slice};
 ghost use Rattle.lists.specs.Lists.{all, chain};
@@ -14,7 +16,7 @@ use net_network::Network;
 use types::{Entry, Envelope, Kind, LastMessage, MOST_ENTRIES};
 
 // What is asked of each entry: a place that is not used is zero; the source is below the actor count; the count suits the kind.
-#[derive(Drop)]
+#[derive(Clone, Copy)]
 enum Test {
     Unused,
     Source(usize),

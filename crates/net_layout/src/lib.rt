@@ -1,5 +1,7 @@
 // The entries of a network laid out as cells, and cells read back as entries: what stands between a struct and a run that
 // lends its cells.
+#![tactic(auto)]
+
 ghost use Rattle.std.specs.Prelude.{◌≡◌, map, ◌≤◌, take};
 ghost use Rattle.lists.specs.Lists.{pad};
 ghost use Rattle.types.specs.Capacities.{most_entries};

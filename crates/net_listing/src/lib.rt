@@ -1,4 +1,6 @@
 // The network's two listings, each as an index and an answer: all envelopes as often as they are there, and those that can be delivered.
+#![tactic(auto)]
+
 ghost use Rattle.std.specs.Prelude.{◌≡◌, ◌-◌, ◌≤◌, min, take, drop};
 ghost use Rattle.types.specs.Capacities.{most_entries};
 ghost use Rattle.net_listing.specs.Listing.{start, listed_from, listed_next, opens, offered_from, offered_next};
@@ -8,21 +10,21 @@ use net_network::Network;
 use types::{Entry, Envelope, Kind, MOST_ENTRIES};
 
 // A place in the full listing: an entry, and how many envelopes from that entry on were listed.
-#[derive(Drop)]
+#[derive(Clone, Copy)]
 pub struct Cursor {
     pub entry: usize,
     pub copy: u16,
 }
 
 // The envelope at a place of the full listing, and the place after it.
-#[derive(Drop)]
+#[derive(Clone, Copy)]
 pub enum Step {
     Next(Envelope, Cursor),
     End,
 }
 
 // The same of the deliverable listing, where a place is an entry.
-#[derive(Drop)]
+#[derive(Clone, Copy)]
 pub enum Offer {
     Next(Envelope, usize),
     End,

@@ -1,4 +1,6 @@
 // The names of the network's kinds: which kind a lent name is, and a name written into a lent buffer, by its kind or by its place in the list.
+#![tactic(auto)]
+
 ghost use Rattle.std.specs.Prelude.{◌≡◌, drop};
 ghost use Rattle.rules.specs.Network.{name_of, names, same_bytes, kind_named};
 ghost use Rattle.net_names.specs.Names.{named_of, outcome_number, outcome_kinds, named_number, named_kinds};
@@ -13,21 +15,21 @@ const DUPLICATING: [u8; 21] = *b"unordered_duplicating";
 const NONDUPLICATING: [u8; 24] = *b"unordered_nonduplicating";
 
 // What a name names. Unknown is refusal 12.
-#[derive(Drop)]
+#[derive(Clone, Copy)]
 pub enum Named {
     Known(Kind),
     Unknown,
 }
 
 // How a name was written: how many bytes, or that they do not fit and none was.
-#[derive(Drop)]
+#[derive(Clone, Copy)]
 pub enum Written {
     Bytes(usize),
     NoRoom,
 }
 
 // What stands at a place of the list of names: a name, of which so many bytes were written; one that does not fit; none, since the list has ended.
-#[derive(Drop)]
+#[derive(Clone, Copy)]
 pub enum Listed {
     Name(usize),
     NoRoom,

@@ -1,5 +1,7 @@
 // The network as a struct: an ordered array of entries with its used count, and the last message of the duplicating kind. A
 // change lays the entries out as cells, is made there, and is laid back.
+#![tactic(auto)]
+
 ghost use Rattle.std.specs.Prelude.{◌≡◌, [], ◌≤◌};
 ghost use Rattle.types.specs.declared.LastMessage.TheVariants.{Nothing};
 ghost use Rattle.types.specs.Capacities.{most_entries, most_copies};
@@ -17,7 +19,7 @@ use net_layout::{cells_of, entries_of};
 use types::{Entry, Envelope, Kind, LastMessage, MOST_ENTRIES};
 
 // Places from the used count on hold the zero entry.
-#[derive(Drop)]
+#[derive(Clone, Copy)]
 pub struct Network {
     pub kind: Kind,
     pub entries: [Entry; MOST_ENTRIES],
@@ -26,7 +28,7 @@ pub struct Network {
 }
 
 // An enum cannot hold an array, so the answer stands beside the network. Where it is not Done, the network is the one that came.
-#[derive(Drop)]
+#[derive(Clone, Copy)]
 pub struct Sent {
     pub answer: Answer,
     pub network: Network,
@@ -94,7 +96,7 @@ pub fn last_after(kind: Kind, e: Envelope, last: LastMessage) -> LastMessage
 }
 
 // ---- the changes
-#[derive(Drop)]
+#[derive(Clone, Copy)]
 enum Change {
     Send,
     Drop,

@@ -1,5 +1,7 @@
 // The network in place: send, deliver and drop of the first used cells of a lent slice, for all three kinds. The used
 // count and the count of messages go in and come back in a small answer. On a refusal the cells are as they were.
+#![tactic(auto)]
+
 ghost use Rattle.std.specs.Prelude.{◌≡◌, true, not, ◌≤◌, ◌<◌};
 ghost use Rattle.lists.specs.Lists.{chain, lead, ins};
 ghost use Rattle.types.specs.declared.Kind.{Kind};
@@ -17,7 +19,7 @@ use rows::{insert_at, remove_at};
 use types::{Envelope, Kind, MOST_COPIES};
 
 // Where the answer is not Done, the counts are those that came.
-#[derive(Drop)]
+#[derive(Clone, Copy)]
 pub struct Sent {
     pub answer: Answer,
     pub used: usize,
@@ -25,7 +27,7 @@ pub struct Sent {
 }
 
 // Where an envelope is, or where it would stand.
-#[derive(Drop)]
+#[derive(Clone, Copy)]
 enum Found {
     At(usize),
     Free(usize),

@@ -1,5 +1,7 @@
 // Places among the first used cells of a lent slice, found by halves. What stands after the used count is not looked at, so
 // that nothing grows with the room.
+#![tactic(auto)]
+
 ghost use Rattle.std.specs.Prelude.{◌≡◌, true, not, ◌≤◌, length, take, leb};
 ghost use Rattle.lists.specs.Lists.{chain, lead};
 ghost use Rattle.types.specs.Order.{is_equal};
@@ -9,7 +11,7 @@ ghost use Rattle.net_slots.specs.Search.{passes_of, Once};
 use net_cells::{TAGS, before, same};
 
 // What a search passes over: cells that stand before k, of a flow up to that of k, or of a flow before it.
-#[derive(Drop)]
+#[derive(Clone, Copy)]
 pub enum Look {
     Before,
     UpToFlow,

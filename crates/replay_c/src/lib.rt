@@ -1,4 +1,6 @@
 // The replay for C and Rust to link: one function, under a name that is this project's own.
+#![tactic(auto)]
+
 ghost use Rattle.std.specs.Prelude.{◌≡◌, ◌++◌, length, drop, leb};
 ghost use Rattle.lists.specs.Lists.{choose};
 ghost use Rattle.rules.specs.Outcome.{base};

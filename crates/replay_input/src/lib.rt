@@ -1,11 +1,13 @@
 // Reading a script from a descriptor, and where the program is to read it from. What the world gives no contract can say;
 // what it means, and what follows from it, is decided by functions of their own, each with an equation.
+#![tactic(auto)]
+
 ghost use Rattle.std.specs.Prelude.{◌≡◌, ◌≤◌, length, take};
 ghost use Rattle.libc.specs.Io.{Moved};
 ghost use Rattle.replay_input.specs.Views.{gave_of, Within, next_of, Last, source_of};
 
 // What one read came to.
-#[derive(Drop)]
+#[derive(Clone, Copy)]
 enum Gave {
     Failed,
     Ended,
@@ -13,14 +15,14 @@ enum Gave {
 }
 
 // What all the reads came to: one failed, or there are so many bytes.
-#[derive(Drop)]
+#[derive(Clone, Copy)]
 pub enum Input {
     Broken,
     Whole(usize),
 }
 
 // What follows a read: another from this place on, or none.
-#[derive(Drop)]
+#[derive(Clone, Copy)]
 enum Next {
     From(usize),
     Over(Input),
@@ -89,7 +91,7 @@ pub fn read_all(fd: i32, script: &mut [u8]) -> Input
 }
 
 // Where the script is: on standard input, in the file that the one argument names, or nowhere, since there are more arguments.
-#[derive(Drop)]
+#[derive(Clone, Copy)]
 pub enum Source {
     Input,
     Argument,

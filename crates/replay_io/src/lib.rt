@@ -1,4 +1,6 @@
 // Reads a script, has it replayed, and writes what comes out: all that the program does.
+#![tactic(auto)]
+
 ghost use Rattle.std.specs.Prelude.{◌≡◌, length, take};
 ghost use Rattle.io.specs.Counts.{IsPrefixLen};
 ghost use Rattle.rules.specs.Outcome.{base};

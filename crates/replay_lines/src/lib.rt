@@ -1,6 +1,8 @@
 // The lines of the program, each put into a lent buffer from a place on, or with `write` false only measured: a buffer
 // that is too small is left untouched, so the whole output is measured first, by the code that then writes it.
 // Each answers the place after what it put. A line starts at a place of up to 32 bits, so that no sum overflows.
+#![tactic(auto)]
+
 ghost use Rattle.std.specs.Prelude.{◌≡◌, [], ◌∷◌, ◌+◌, ◌≤◌, length};
 ghost use Rattle.rules.specs.Program.{decimal, spaced, line, answer_line, bad_word, start_word, done_word};
 ghost use Rattle.replay_lines.specs.Pieces.{put, Fits, Room, Piece};

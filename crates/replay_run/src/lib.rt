@@ -1,6 +1,8 @@
 // The run of a script's actions from a system on, as the fold of steps: a line for each, and the totals. The system is laid out as
 // rows once, and each action is lent those that it touches. It is known to be well formed, and each action keeps it so: it is never
 // tested again.
+#![tactic(auto)]
+
 ghost use Rattle.std.specs.Prelude.{◌≡◌, ◌+◌, ◌<◌};
 ghost use Rattle.sys_all_rows.specs.Views.{hall_of, books_of};
 ghost use Rattle.replay_run.specs.Views.{tallied, Runs, Writes};
@@ -16,7 +18,7 @@ use sys_system::System;
 use types::{Format, Kind, MOST_ACTORS, MOST_ENTRIES, MOST_PENDING, MOST_RULES};
 
 // How many answers were 0, 1 and others.
-#[derive(Drop)]
+#[derive(Clone, Copy)]
 pub struct Tally {
     pub next: u64,
     pub ignored: u64,

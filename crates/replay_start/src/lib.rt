@@ -1,4 +1,6 @@
 // The start of what a script's opening says.
+#![tactic(auto)]
+
 ghost use Rattle.std.specs.Prelude.{◌≡◌};
 ghost use Rattle.layout.specs.Read.{bad_at};
 ghost use Rattle.rules.specs.Script.{versions, opening_from};
@@ -12,7 +14,7 @@ use sys_system::blank;
 
 // The start's answer, the script's version, and the place of the first action. What cannot be read starts nothing, and is bad at that
 // place.
-#[derive(Drop)]
+#[derive(Clone, Copy)]
 pub struct Opened {
     pub answered: Answered,
     pub version: u8,

@@ -1,5 +1,7 @@
 // Rows of four words in a lent slice, of which the first are used: one put in, one taken out, the first ones copied. All are
 // moved where they lie, and what stands after the used ones is not looked at, so that nothing grows with the room.
+#![tactic(auto)]
+
 ghost use Rattle.std.specs.Prelude.{◌≡◌, ◌+◌, ◌-◌, ◌≤◌, ◌<◌, length, take};
 ghost use Rattle.lists.specs.Lists.{ins, del};
 ghost use Rattle.rows.specs.Moves.{Moved};

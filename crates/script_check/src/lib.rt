@@ -1,4 +1,6 @@
 // The layout of a whole script: it can be read, or its first bad record is at a place. It is the reading of the script with nothing kept.
+#![tactic(auto)]
+
 ghost use Rattle.std.specs.Prelude.{◌≡◌, drop};
 ghost use Rattle.rules.specs.Script.{versions, Fine, actions_from, read_script};
 ghost use Rattle.script_check.specs.Views.{layout_of, check_says, layout_says};
@@ -8,7 +10,7 @@ use script_records::{ActionRead, format_of, read_action};
 use types::{Format, MOST_BYTES};
 
 // Whether a script can be read; if not, the place of its first bad record.
-#[derive(Drop)]
+#[derive(Clone, Copy)]
 pub enum Layout {
     Good,
     Bad(usize),

@@ -1,5 +1,7 @@
 // What stands before the actions of a script: its header, the tables of its actors and its starting envelopes. Each list is read into an
 // array, with the place after it, or it is bad at a place.
+#![tactic(auto)]
+
 ghost use Rattle.std.specs.Prelude.{◌≡◌, ◌≤◌, drop};
 ghost use Rattle.types.specs.Capacities.{most_actors, most_entries, most_rules};
 ghost use Rattle.layout.specs.Read.{bad_at, one, repeat};
@@ -19,7 +21,7 @@ use types::{
 };
 
 // The rules of one actor; unused places hold the zero rule. A bad table has no rules.
-#[derive(Drop)]
+#[derive(Clone, Copy)]
 pub struct TableRead {
     pub found: bool,
     pub rules: [Rule; MOST_RULES],
@@ -28,7 +30,7 @@ pub struct TableRead {
 }
 
 // Unused places hold the zero table. Where one table is bad there is none.
-#[derive(Drop)]
+#[derive(Clone, Copy)]
 pub struct TablesRead {
     pub found: bool,
     pub tables: [Table; MOST_ACTORS],
@@ -37,7 +39,7 @@ pub struct TablesRead {
 }
 
 // Unused places hold the zero envelope. Where one envelope is bad there is none.
-#[derive(Drop)]
+#[derive(Clone, Copy)]
 pub struct EnvelopesRead {
     pub found: bool,
     pub list: [Envelope; MOST_ENTRIES],
@@ -46,7 +48,7 @@ pub struct EnvelopesRead {
 }
 
 // Where one record is bad there is nothing but its place.
-#[derive(Drop)]
+#[derive(Clone, Copy)]
 pub struct OpeningRead {
     pub found: bool,
     pub version: u8,

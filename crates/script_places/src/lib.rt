@@ -1,4 +1,6 @@
 // The places of a script: what stands from a place on, and where a record that begins there ends.
+#![tactic(auto)]
+
 ghost use Rattle.std.specs.Prelude.{◌≡◌, ◌+◌, ◌≤◌, ◌<◌, drop};
 ghost use Rattle.layout.specs.Form.{whole_of};
 ghost use Rattle.script_bits.specs.Front.{Front};
@@ -7,7 +9,7 @@ ghost use Rattle.script_places.specs.Views.{ending_of};
 use script_bits::{cut, whole};
 
 // Where a record ends, or that it is cut or badly padded.
-#[derive(Drop)]
+#[derive(Clone, Copy)]
 pub enum Ending {
     At(usize),
     Bad,

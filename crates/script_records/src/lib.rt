@@ -1,5 +1,7 @@
 // The records of a script but its rules. Each is read at a place, as the script's format says: the answer is the value with the place
 // after it, or the place of the bad record.
+#![tactic(auto)]
+
 ghost use Rattle.std.specs.Prelude.{◌≡◌, List, ℕ, ◌+◌, ◌≤◌, ◌<◌, drop, leb, eqb};
 ghost use Rattle.lists.specs.Lists.{any};
 ghost use Rattle.layout.specs.Form.{filled, field, follow, only};
@@ -16,33 +18,33 @@ use script_bits::{cut, cut8, cut32, field, field8, word};
 use script_places::{Ending, end_in, end_of, from};
 use types::{Action, Envelope, Format, Id, MOST_ACTORS, MOST_RULES, Message, Number, Payload};
 
-#[derive(Drop)]
+#[derive(Clone, Copy)]
 pub struct Header {
     pub version: u8,
     pub kind: u8,
     pub actors: u8,
 }
 
-#[derive(Drop)]
+#[derive(Clone, Copy)]
 pub enum HeaderRead {
     Found(Header, usize),
     Bad(usize),
 }
 
 // A count of rules or of envelopes.
-#[derive(Drop)]
+#[derive(Clone, Copy)]
 pub enum CountRead {
     Found(usize, usize),
     Bad(usize),
 }
 
-#[derive(Drop)]
+#[derive(Clone, Copy)]
 pub enum EnvelopeRead {
     Found(Envelope, usize),
     Bad(usize),
 }
 
-#[derive(Drop)]
+#[derive(Clone, Copy)]
 pub enum ActionRead {
     Act(Action, usize),
     End(usize),
@@ -50,19 +52,19 @@ pub enum ActionRead {
 }
 
 // A part of a record and the bit after it, or that nothing has such fields.
-#[derive(Drop)]
+#[derive(Clone, Copy)]
 enum MessagePart {
     Found(Message, usize),
     Stuck,
 }
 
-#[derive(Drop)]
+#[derive(Clone, Copy)]
 enum EnvelopePart {
     Found(Envelope, usize),
     Stuck,
 }
 
-#[derive(Drop)]
+#[derive(Clone, Copy)]
 enum ActionPart {
     Act(Action, usize),
     End(usize),

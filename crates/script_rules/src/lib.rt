@@ -1,4 +1,6 @@
 // A rule of a script's table, read at a place as the script's format says: the rule with the place after it, or the place of the bad record.
+#![tactic(auto)]
+
 ghost use Rattle.std.specs.Prelude.{◌≡◌, true, false, [], ◌+◌, ◌≤◌, ◌<◌, drop};
 ghost use Rattle.types.specs.Capacities.{most_commands};
 ghost use Rattle.layout.specs.Form.{filled, follow, then, times};
@@ -15,7 +17,7 @@ use script_places::{Ending, end_of, from};
 use types::{Format, Id, MOST_COMMANDS, Payload, Rule, RuleCommand, Slot};
 
 // An enum cannot hold the array of a rule. A bad rule is the zero rule.
-#[derive(Drop)]
+#[derive(Clone, Copy)]
 pub struct RuleRead {
     pub found: bool,
     pub rule: Rule,
@@ -23,13 +25,13 @@ pub struct RuleRead {
 }
 
 // A part of a rule and the bit after it, or that nothing has such fields.
-#[derive(Drop)]
+#[derive(Clone, Copy)]
 enum CommandPart {
     Found(RuleCommand, usize),
     Stuck,
 }
 
-#[derive(Drop)]
+#[derive(Clone, Copy)]
 struct CommandsPart {
     found: bool,
     commands: [Slot; MOST_COMMANDS],

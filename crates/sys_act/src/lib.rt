@@ -1,4 +1,6 @@
 // Any action on lent rows: those of the network, and of the actor that it touches. A step, a run and a start are made of this.
+#![tactic(auto)]
+
 ghost use Rattle.std.specs.Prelude.{◌≡◌, ◌≤◌, length, ltb};
 ghost use Rattle.types.specs.Capacities.{most_actors};
 ghost use Rattle.net_rows.specs.Views.{NetReady};

@@ -1,4 +1,6 @@
 // One actor: its crashed mark, its timers, its link, and what it has stored. Its table stands apart, since no step changes it.
+#![tactic(auto)]
+
 ghost use Rattle.std.specs.Prelude.{◌≡◌, true};
 ghost use Rattle.link_durable.specs.Views.{zero_durable, durable_as};
 ghost use Rattle.sys_actor.specs.Views.{ActorLaid, quiet, actor_fine, zero_actor, zeroed, blank_actor};
@@ -7,7 +9,7 @@ use link_durable::{Durable, Link, Pendings, Stored, Taken, durable_ok, stored_ok
 use link_timers::Timers;
 use types::{Id, LAST_STATE, MOST_ACTORS, MOST_PENDING, Number, Payload, Pending, Storage};
 
-#[derive(Drop)]
+#[derive(Clone, Copy)]
 pub struct Actor {
     pub crashed: bool,
     pub timers: Timers,

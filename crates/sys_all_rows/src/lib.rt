@@ -1,5 +1,7 @@
 // A whole system as rows: those of every actor and of every table are laid out once, and an action is then lent those of the
 // actor that it touches. What a run lends from one action to the next.
+#![tactic(auto)]
+
 ghost use Rattle.std.specs.Prelude.{◌≡◌, true, ℕ, ◌≤◌, ◌<◌, length, get_or};
 ghost use Rattle.types.specs.Capacities.{most_actors};
 ghost use Rattle.link_inner.specs.Views.{table_ok};

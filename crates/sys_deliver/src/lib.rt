@@ -1,4 +1,6 @@
 // A Deliver on lent rows: 2, Ignored for the destination, then the message to the link: an Ack, one that is only acked, or one that is taken.
+#![tactic(auto)]
+
 ghost use Rattle.std.specs.Prelude.{◌≡◌, ℕ, ◌≤◌, ◌<◌};
 ghost use Rattle.types.specs.Capacities.{most_actors, last_state};
 ghost use Rattle.types.specs.declared.Action.TheVariants as action;

@@ -1,5 +1,7 @@
 // What a rule's commands ask of the network and the timers, run in place, at most so many of them. The durable part is not
 // touched: its changes come afterwards (or before, where it is stored first). After an 8 the cells are the caller's to put back.
+#![tactic(auto)]
+
 ghost use Rattle.std.specs.Prelude.{[], ◌∷◌, ◌+◌, ◌≤◌, ◌<◌, take};
 ghost use Rattle.net_rows.specs.Views.{NetReady};
 ghost use Rattle.link_direct.specs.Direct.{asked, sends};
@@ -12,7 +14,7 @@ use link_timers::Timers;
 use types::{Envelope, Id, InnerCommand, Kind, Message, Number};
 
 // The next number, and how many commands may still run.
-#[derive(Drop)]
+#[derive(Clone, Copy)]
 pub struct Emitted {
     pub answer: Answer,
     pub used: usize,

@@ -1,4 +1,6 @@
 // Whether a system is laid out and well formed, asked of any content that the struct can hold.
+#![tactic(auto)]
+
 ghost use Rattle.std.specs.Prelude.{◌≡◌, true, ◌≤◌, take, drop};
 ghost use Rattle.types.specs.Capacities.{most_actors};
 ghost use Rattle.lists.specs.Lists.{all};

@@ -1,4 +1,6 @@
 // An actor between its struct and its rows: laid out, and back.
+#![tactic(auto)]
+
 ghost use Rattle.std.specs.Prelude.{◌≡◌, true, [], ◌≤◌, ◌<◌, get_or};
 ghost use Rattle.types.specs.Capacities.{last_state};
 ghost use Rattle.link_durable.specs.Views.{durable_view, stored_as, durable_laid, stored_laid};

@@ -1,4 +1,6 @@
 // Steps on lent rows: a rule's commands whole, an Ack, a message that is acked or taken; with refusals, and what is stored.
+#![tactic(auto)]
+
 ghost use Rattle.std.specs.Prelude.{◌≡◌, [], ◌∷◌, ℕ, ◌+◌, ◌≤◌, ◌<◌, length, get_or};
 ghost use Rattle.lists.specs.Lists.{choose};
 ghost use Rattle.types.specs.Capacities.{most_entries, most_pending, most_actors, last_state};

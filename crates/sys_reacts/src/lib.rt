@@ -1,5 +1,7 @@
 // The commands of a rule, after a message and its Ack where there is one: 6 and 7 beforehand, and after an 8 the cells are put back.
 // Where there is room for all sends no copy is made.
+#![tactic(auto)]
+
 ghost use Rattle.std.specs.Prelude.{◌≡◌, true, ◌∷◌, ◌++◌, ◌+◌, ◌≤◌, length, take};
 ghost use Rattle.types.specs.Capacities.{most_entries, most_copies};
 ghost use Rattle.types.specs.declared.Message.TheVariants.{Ack};
@@ -16,7 +18,7 @@ use sys_emits::{Emitted, emit};
 use types::{Envelope, Id, Kind, MOST_COPIES, MOST_ENTRIES, Message, Number};
 
 // What goes before a row's commands: nothing, or a message that is delivered, and the Ack of its number.
-#[derive(Drop)]
+#[derive(Clone, Copy)]
 pub enum First {
     Nothing,
     Message(Envelope, Number),

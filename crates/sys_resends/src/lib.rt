@@ -1,4 +1,6 @@
 // Every pending message is sent again, in place, at most so many of them; and the same with the cells put back after an 8.
+#![tactic(auto)]
+
 ghost use Rattle.std.specs.Prelude.{◌≡◌, map, ◌≤◌, ◌<◌, length, take};
 ghost use Rattle.types.specs.Capacities.{most_entries};
 ghost use Rattle.types.specs.declared.LastMessage.{LastMessage};

@@ -1,4 +1,6 @@
 // The rows of one actor: what a handler leaves of the live ones, all of it stored, and the row before any start.
+#![tactic(auto)]
+
 ghost use Rattle.std.specs.Prelude.{◌≡◌, ◌+◌, ◌≤◌, ◌<◌, length, drop, get_or, set};
 ghost use Rattle.types.specs.Capacities.{most_pending, most_actors, last_state};
 ghost use Rattle.rules.specs.Link.{acked};

@@ -1,4 +1,6 @@
 // The start of a system: the tests before it, the given envelopes sent into cells, and the actors woken in turn on rows.
+#![tactic(auto)]
+
 ghost use Rattle.std.specs.Prelude.{◌≡◌, true, ◌≤◌, length, take};
 ghost use Rattle.types.specs.Capacities.{most_actors, most_entries};
 ghost use Rattle.types.specs.declared.LastMessage.TheVariants.{Nothing};
@@ -30,7 +32,7 @@ use sys_wake::wake;
 use types::{Envelope, Id, Kind, LastMessage, MOST_ACTORS, MOST_ENTRIES, MOST_PENDING};
 
 // The given envelopes. A count beyond their places is refused as 10.
-#[derive(Drop)]
+#[derive(Clone, Copy)]
 pub struct Given {
     pub list: [Envelope; MOST_ENTRIES],
     pub used: usize,
@@ -143,7 +145,7 @@ fn fill(
 
 // ---- actors 0, 1, ... each with its commands run before the next
 // The counts of the network after a wake, and the woken actor.
-#[derive(Drop)]
+#[derive(Clone, Copy)]
 struct Woken {
     sent: Sent,
     actor: Actor,

@@ -1,5 +1,7 @@
 // A step of a whole system: 9 first, then the network and the one actor that the action touches are laid out as rows, the action is
 // made on them, and they are laid back.
+#![tactic(auto)]
+
 ghost use Rattle.std.specs.Prelude.{◌≡◌, ◌<◌};
 ghost use Rattle.types.specs.Capacities.{most_actors};
 ghost use Rattle.rules.specs.Outcome.{base};
@@ -24,7 +26,7 @@ use sys_system::System;
 use types::{Action, Kind, LastMessage, MOST_PENDING};
 
 // What an action leaves of network and actor. Where the answer is not Done, they are not to be used.
-#[derive(Drop)]
+#[derive(Clone, Copy)]
 struct Touched {
     answer: Answer,
     network: Network,

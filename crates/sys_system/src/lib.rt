@@ -1,4 +1,6 @@
 // A system of actors: its network, its actors, and their tables.
+#![tactic(auto)]
+
 ghost use Rattle.std.specs.Prelude.{◌≡◌};
 ghost use Rattle.rules.specs.Start as start;
 ghost use Rattle.sys_system.specs.Views.{system_of};
@@ -9,7 +11,7 @@ use sys_actor::{Actor, zero_actor};
 use types::{Kind, MOST_ACTORS};
 
 // The first `count` actors are in use, each with the table at its place. Actors and tables from the count on are zero.
-#[derive(Drop)]
+#[derive(Clone, Copy)]
 pub struct System {
     pub count: usize,
     pub network: Network,

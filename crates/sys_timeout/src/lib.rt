@@ -1,4 +1,6 @@
 // A Timeout on lent rows. The Network timer sends again what is pending; a user's timer goes, and its rule's commands are run.
+#![tactic(auto)]
+
 ghost use Rattle.std.specs.Prelude.{◌≡◌, true, List, ℕ, ◌<◌, length, get_or};
 ghost use Rattle.types.specs.Capacities.{most_entries, network};
 ghost use Rattle.types.specs.declared.Rule.{Rule};

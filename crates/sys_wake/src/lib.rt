@@ -1,4 +1,6 @@
 // A start and a recovery on lent rows: the live rows are loaded from what is stored, and the rule of a start runs on them.
+#![tactic(auto)]
+
 ghost use Rattle.std.specs.Prelude.{◌≡◌, ℕ, ◌<◌, length, get_or};
 ghost use Rattle.types.specs.Capacities.{network};
 ghost use Rattle.types.specs.declared.Action.TheVariants.{Recover};

@@ -1,5 +1,7 @@
 // For tests only: every field of a whole system as bytes, used places or not, but for its tables. The widths are fixed, so
 // that systems which differ have different bytes.
+#![tactic(auto)]
+
 ghost use Rattle.std.specs.Prelude.{◌≡◌, ◌+◌, ◌≤◌, length};
 
 use link_durable::Durable;
@@ -21,7 +23,7 @@ const DURABLE_PIECES: usize = MOST_PENDING + MOST_ACTORS + 3;
 const ACTOR_PIECES: usize = 2 * DURABLE_PIECES + 2;
 
 // Some numbers, and in how many bytes each is written.
-#[derive(Drop)]
+#[derive(Clone, Copy)]
 struct Piece {
     n: [u64; 7],
     width: [usize; 7],

@@ -1,5 +1,7 @@
 // Replays the list of scripts that its argument names, and writes how many there are, for how many of them the port's output is not
 // the stored one, and which is the first of these.
+#![tactic(auto)]
+
 ghost use Rattle.std.specs.Prelude.{◌≡◌, length};
 
 use libc::STDOUT_FILENO;

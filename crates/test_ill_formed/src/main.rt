@@ -1,6 +1,8 @@
 // Tries a step on systems that are not well formed, each in one way, and writes the answer and whether the same system came back.
 // Among them stand well-formed systems, a change away, on which the step is done: the answer is not always 9. Each line of
 // the file `stdin` is a system: what it is called, and the way in which it is made (test_ill_formed_ways).
+#![tactic(auto)]
+
 ghost use Rattle.std.specs.Prelude.{◌≤◌, length};
 
 use answers::number_of;
@@ -21,7 +23,7 @@ fn same_bytes(a: System, b: System) -> bool {
 }
 
 // What came of a trial.
-#[derive(Drop)]
+#[derive(Clone, Copy)]
 struct Trial {
     answer: u64,
     same: bool,

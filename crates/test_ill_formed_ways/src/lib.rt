@@ -14,6 +14,8 @@
 // u v w x to the source, destination or timer, echo, payload or value
 //
 // Eight numbers stand in a word, the first one lowest.
+#![tactic(auto)]
+
 ghost use Rattle.std.specs.Prelude.{◌<◌};
 
 use link_durable::{Durable, Link, Stored, Taken};

@@ -1,5 +1,7 @@
 // The end of sheet row 11, which no script reaches: number 2^64 - 2 is sent, and the next send is refused with 6. The
 // system is made by hand: actor 0 has its last number left, sends 9 to actor 1 at every message, and has two on the way.
+#![tactic(auto)]
+
 use answers::number_of;
 use libc::STDOUT_FILENO;
 use sys_answered::Answered;

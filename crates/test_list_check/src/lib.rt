@@ -1,5 +1,7 @@
 // For tests only: a list of scripts with the outputs that another program wrote for them, the oracle; each is replayed and compared.
 // Every part of the list, a script or an output, has its length in front: four bytes, most significant first.
+#![tactic(auto)]
+
 ghost use Rattle.std.specs.Prelude.{◌≡◌, ◌-◌, ◌<◌, ◌≤◌, length, take, drop};
 ghost use Rattle.test_list_check.specs.List.{part_size, pair_size, agrees, right, counted, tallied};
 
@@ -12,7 +14,7 @@ use script_places::from;
 const LARGE: usize = 65536;
 
 // The first that differs is counted from 1, and is 0 where none does.
-#[derive(Drop)]
+#[derive(Clone, Copy)]
 pub struct Tally {
     pub scripts: usize,
     pub differ: usize,

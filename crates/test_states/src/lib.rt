@@ -1,5 +1,7 @@
 // For tests only: the output of a script, and the whole system after its start and after each of its actions, as a driver
 // in another language can call them. The driver compares them with the Rust; what they promise here is only to be safe.
+#![tactic(auto)]
+
 ghost use Rattle.std.specs.Prelude.{◌≡◌, ◌++◌, ◌≤◌, length, drop, leb};
 ghost use Rattle.lists.specs.Lists.{choose};
 ghost use Rattle.rules.specs.Outcome.{base};

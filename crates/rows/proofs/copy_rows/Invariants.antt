@@ -1,0 +1,12 @@
+-- `rows::copy_rows` meets its contract. Below i the rows are those of the other, and one more is put at i.
+-- Assumes nothing.
+use Prim.Native.Nat.{◌≤◌, ◌-◌}
+use mathlib.Core.Path.{◌≡◌}
+use lib.ListN.{length, take}
+use Rattle.rows.proofs.copy_rows.Given as goal
+
+abbrev pub invariant-loop-i : goal.invariant-loop-i
+invariant-loop-i l = (l.i ≤ l.n) × (length l.to ≡ length l.initial.to) × (take l.i l.to ≡ take l.i l.from)
+
+abbrev pub decreases-loop-i : goal.decreases-loop-i
+decreases-loop-i l = l.n - l.i
