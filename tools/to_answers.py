@@ -204,11 +204,11 @@ def convert(folder, crate, path, names):
     arms.sort(key=lambda a: -len(a[1]))
     raws = sorted({p[2][1] for p in names["places"] if p[4] and ["true", "true-raw"] in p[4] or p[4] and ["false", "false-raw"] in p[4]})
     calls = {p[2][1]: FUNCTIONS[p[3]] for p in names["places"] if p[3] in FUNCTIONS}
-    own = FUNCTIONS.get(crate + "::" + path.replace(".", "::"))
+    mine = FUNCTIONS.get(crate + "::" + path.replace(".", "::"))
     helpers = []
 
     def turn(body):
-        return flatten(body, steps, left, arms, raws, calls, own)
+        return flatten(body, steps, left, arms, raws, calls, mine)
 
     def with_helpers(body, opened):
         """Helpers at a place: facts become lets before the body, values are written out."""
@@ -308,8 +308,8 @@ def convert(folder, crate, path, names):
             opens = [w for l in opened.split("\n") if l.strip().startswith("unfolding") for w in l.split()[1:]]
             others = [l for l in opened.split("\n") if l.strip() and not l.strip().startswith("unfolding")]
             body, opens = with_helpers(body, opens)
-            if new.startswith("returns") and own:
-                body = as_record(body, own[2]) or body
+            if new.startswith("returns") and mine:
+                body = as_record(body, mine[2]) or body
             opened = ("unfolding " + " ".join(opens) + "\n" if opens else "") + "".join(o + "\n" for o in others)
             answers.append("\n".join(lead + [f"pub {new} : goal.{new}"]) + "\n" + opened + f"{new} c =" + body.rstrip())
             continue

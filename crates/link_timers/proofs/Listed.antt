@@ -118,6 +118,7 @@ unfolding listed
 listed-ascends x = from-ascends bits 0 x bits (omega arith)
 
 ascends-most : (lo hi : ℕ) (ts : List ℕ) → Ascends lo hi ts → (t : ℕ) → t ∈ ts → t < hi
+ascends-most lo hi [] a t x'' = elim x'' [ ]
 ascends-most lo hi (y ∷ ys) a t (Memᴰ.head e) = rw e a.1
 ascends-most lo hi (y ∷ ys) a t (Memᴰ.tail m) = ascends-most (suc y) hi ys a.2 t m
 

@@ -43,7 +43,7 @@ returns-then-not-pendings_pass c =
     durable-is c.args.d n m c.requires in
     let low : leb 1 c.args.d.next.0 ≡ true = le-leb 1 c.args.d.next.0 c.if-next-lt1.false in
     let tested : pending c.args.d ≡ c.pendings_pass.result = used-pass c.args.d.next.0 _ ∙ sym c.pendings_pass.ensures in
-    rw (formed _ _ laid) (simp (low, tested ∙ c.if-not-pendings_pass.true-raw))
+    rw (formed _ _ laid) (simp (low, tested ∙ c.if-not-pendings_pass.true))
 
 pub ascending-requires : goal.ascending-requires
 ascending-requires c =
@@ -60,8 +60,8 @@ returns-then-not-ascending c =
     durable-is c.args.d n m c.requires in
     let low : leb 1 c.args.d.next.0 ≡ true = le-leb 1 c.args.d.next.0 c.if-next-lt1.false in
     let tested : pending c.args.d ≡ c.pendings_pass.result = used-pass c.args.d.next.0 _ ∙ sym c.pendings_pass.ensures in
-    let passed : pending c.args.d ≡ true = tested ∙ c.if-not-pendings_pass.false-raw in
-    let f = sym c.ascending.ensures ∙ c.if-not-ascending.true-raw in
+    let passed : pending c.args.d ≡ true = tested ∙ c.if-not-pendings_pass.false in
+    let f = sym c.ascending.ensures ∙ c.if-not-ascending.true in
     rw (formed _ _ laid) (simp (low, passed, f))
 
 pub returns-then-actors-t : goal.returns-then-actors-t
@@ -72,8 +72,8 @@ returns-then-actors-t c =
     durable-is c.args.d n m c.requires in
     let low : leb 1 c.args.d.next.0 ≡ true = le-leb 1 c.args.d.next.0 c.if-next-lt1.false in
     let tested : pending c.args.d ≡ c.pendings_pass.result = used-pass c.args.d.next.0 _ ∙ sym c.pendings_pass.ensures in
-    let passed : pending c.args.d ≡ true = tested ∙ c.if-not-pendings_pass.false-raw in
-    let climbs : chain by_number (pending_list c.args.d.pending) ≡ true = sym c.ascending.ensures ∙ c.if-not-ascending.false-raw in
+    let passed : pending c.args.d ≡ true = tested ∙ c.if-not-pendings_pass.false in
+    let climbs : chain by_number (pending_list c.args.d.pending) ≡ true = sym c.ascending.ensures ∙ c.if-not-ascending.false in
     let a = c.args in
     rw (formed _ _ laid)
     (simp (low, passed, climbs, lt-leb a.d.taken.used a.actors (omega arith)))
@@ -93,8 +93,8 @@ returns c =
     durable-is c.args.d n m c.requires in
     let low : leb 1 c.args.d.next.0 ≡ true = le-leb 1 c.args.d.next.0 c.if-next-lt1.false in
     let tested : pending c.args.d ≡ c.pendings_pass.result = used-pass c.args.d.next.0 _ ∙ sym c.pendings_pass.ensures in
-    let passed : pending c.args.d ≡ true = tested ∙ c.if-not-pendings_pass.false-raw in
-    let climbs : chain by_number (pending_list c.args.d.pending) ≡ true = sym c.ascending.ensures ∙ c.if-not-ascending.false-raw in
+    let passed : pending c.args.d ≡ true = tested ∙ c.if-not-pendings_pass.false in
+    let climbs : chain by_number (pending_list c.args.d.pending) ≡ true = sym c.ascending.ensures ∙ c.if-not-ascending.false in
     let a = c.args in
     rw (formed _ _ laid)
     (simp (

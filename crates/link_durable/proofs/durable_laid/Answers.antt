@@ -7,13 +7,13 @@ use Rattle.link_durable.proofs.durable_laid.Goals as goal
 
 pub returns-then-not-pendings_laid : goal.returns-then-not-pendings_laid
 unfolding durable_laid every
-returns-then-not-pendings_laid c = simp (sym c.pendings_laid.ensures ∙ c.if-not-pendings_laid.true-raw)
+returns-then-not-pendings_laid c = simp (sym c.pendings_laid.ensures ∙ c.if-not-pendings_laid.true)
 
 pub returns : goal.returns
 unfolding durable_laid every
 returns c =
     simp (
       sym c.pendings_laid.ensures
-          ∙ c.if-not-pendings_laid.false-raw,
+          ∙ c.if-not-pendings_laid.false,
       and-true,
     ) c.taken_laid.ensures

@@ -16,14 +16,14 @@ pub returns-then-not-pending_passes : goal.returns-then-not-pending_passes
 returns-then-not-pending_passes c =
     let a = c.args in let l = c.loop-i in
     let n : length a.p.records ≡ most_pending = search (rules, length-mapped) in
-    let e = sym c.pending_passes.ensures ∙ c.if-not-pending_passes.true-raw in
+    let e = sym c.pending_passes.ensures ∙ c.if-not-pending_passes.true in
     walk-fails (pending_passes a.free a.next) a.p.records a.to zero_pending (omega arith) l.i _ (search rules) e l.invariant
 
 pub loop-i-preserved : goal.loop-i-preserved
 loop-i-preserved c =
     let a = c.args in let l = c.loop-i in
     let n : length a.p.records ≡ most_pending = search (rules, length-mapped) in
-    let e = sym c.pending_passes.ensures ∙ c.if-not-pending_passes.false-raw in
+    let e = sym c.pending_passes.ensures ∙ c.if-not-pending_passes.false in
     walk-on (pending_passes a.free a.next) a.p.records a.to zero_pending (omega arith) l.i _ (search rules) e l.invariant
 
 pub returns : goal.returns

@@ -11,13 +11,13 @@ returns-then-s c = c.durable_ok.ensures ∙ sym (stored_some _ _ c.if-s.true)
 pub returns-then-not-durable_laid : goal.returns-then-not-durable_laid
 unfolding every
 returns-then-not-durable_laid c =
-    let e = sym c.durable_laid.ensures ∙ c.if-not-durable_laid.true-raw in
+    let e = sym c.durable_laid.ensures ∙ c.if-not-durable_laid.true in
     let a = c.args in
     rw (stored-none a.actors a.s c.if-s.false) (simp e)
 
 pub returns : goal.returns
 unfolding every
 returns c =
-    let e = sym c.durable_laid.ensures ∙ c.if-not-durable_laid.false-raw in
+    let e = sym c.durable_laid.ensures ∙ c.if-not-durable_laid.false in
     let a = c.args in
     rw (stored-none a.actors a.s c.if-s.false) (simp (e, and-true) c.blank_durable.ensures)
