@@ -85,7 +85,8 @@ def contracts(root):
                 asks = re.findall(r"^\s+requires(?: (\w+))? \{", head, re.M)
                 gives = re.findall(r"^\s+ensures(?: (\w+))? \{", head, re.M)
                 key = crate + "::" + (owner + "::" if owner else "") + m.group(3)
-                found[key] = (lent, asks, gives)
+                named = re.findall(r"(?:^|,)\s*(?:mut )?(\w+)(?=:|\s*(?:,|$))", re.sub(r"<[^>]*>|\[[^\[\]]*\]", "", params))
+                found[key] = (lent, asks, gives, named)
     return found
 
 
@@ -157,7 +158,7 @@ def flatten(body, steps, left, arms=(), raws=(), calls=None, own=None):
         body = re.sub(re.escape("c." + new) + r"\.(true|false)(?![\w-])", "c." + new + r".\1-raw", body)
         body = re.sub(r"not-(true|false) (?:_|[\w'.-]+|\([^()]*\)) (" + re.escape("c." + new) + r"\.(?:true|false))-raw", r"\2", body)
         body = re.sub(r"\((" + re.escape("c." + new) + r"\.(?:true|false))\)", r"\1", body)
-    for new, (lent, asks, gives) in calls.items():
+    for new, (lent, asks, gives, _) in calls.items():
         names = {new}
         for m in re.finditer(r"let (" + NAME + r") = " + re.escape("c." + new) + r" in", body):
             names.add("=" + m.group(1))
@@ -168,6 +169,10 @@ def flatten(body, steps, left, arms=(), raws=(), calls=None, own=None):
             if len(gives) > 1:
                 for k, p in enumerate(gives):
                     body = re.sub(r"(?<![\w'₀-₉.-])" + re.escape(head) + rf"\.ensures\.{k}(?![\w-])", f"{head}.ensures.{p}", body)
+    if own:
+        # an array that was passed by value had a number for its name
+        for k, p in enumerate(own[3]):
+            body = re.sub(rf"(\.args\.|\ba\.)t{k + 1}(?![\w'-])", r"\1" + p, body)
     if own and len(own[1]) > 1:
         for k, p in enumerate(own[1]):
             body = re.sub(r"(?<![\w'₀-₉.-])c\.requires" + rf"\.{k}(?![\w-])", f"c.requires.{p}", body)
