@@ -127,6 +127,15 @@ def as_record(body, clauses):
     return before + "record {\n" + "".join(f"      {n} = {p.strip()};\n" for n, p in zip(clauses, parts)) + "    }"
 
 
+def as_told(body, clauses):
+    """A lemma that gives a tuple, one part for each clause, as a record."""
+    if len(clauses) < 2 or re.search(r"\brecord \{|\belim\b|⊎_elim", body):
+        return None
+    text = body.strip()
+    parts = " ".join(f"{n} = told.{k};" for k, n in enumerate(clauses))
+    return "\n    let told = (" + text + ") in\n    record { " + parts + " }"
+
+
 def tokens(body, table):
     return re.sub(r"(?<![\w'₀-₉.-])(" + NAME + ")", lambda m: table.get(m.group(1), m.group(1)), body)
 
@@ -145,7 +154,7 @@ def flatten(body, steps, left, arms=(), raws=(), calls=None, own=None):
         old = m.group(1)
         if old in ("args", "requires", "ranges", "type_inv", "well_formed", "utf8"):
             return m.group(0)
-        new = steps.get(alike(old)) or steps.get(old)
+        new = steps.get(alike(old)) or steps.get(old) or steps.get(alike(re.sub(r"_lem$", "", old))) or steps.get({"type_size": "size-of"}.get(old))
         if new is None:
             left.append("step " + old)
             return m.group(0)
@@ -164,8 +173,8 @@ def flatten(body, steps, left, arms=(), raws=(), calls=None, own=None):
             names.add("=" + m.group(1))
         for n in names:
             head = "c." + n if not n.startswith("=") else n[1:]
-            for k, p in enumerate(lent):
-                body = re.sub(r"(?<![\w'₀-₉.-])" + re.escape(head) + rf"\.new\.{k}(?![\w-])", f"{head}.new.{p}", body)
+            for k, p in reversed(list(enumerate(lent))):
+                body = re.sub(r"(?<![\w'₀-₉.-])" + re.escape(head) + r"\.new" + r"\.1" * k + r"\.0(?![\w-])", f"{head}.new.{p}", body)
             if len(gives) > 1:
                 for k, p in enumerate(gives):
                     body = re.sub(r"(?<![\w'₀-₉.-])" + re.escape(head) + rf"\.ensures\.{k}(?![\w-])", f"{head}.ensures.{p}", body)
@@ -314,13 +323,13 @@ def convert(folder, crate, path, names):
             others = [l for l in opened.split("\n") if l.strip() and not l.strip().startswith("unfolding")]
             body, opens = with_helpers(body, opens)
             if new.startswith("returns") and mine:
-                body = as_record(body, mine[2]) or body
+                body = as_record(body, mine[2]) or as_told(body, mine[2]) or body
             opened = ("unfolding " + " ".join(opens) + "\n" if opens else "") + "".join(o + "\n" for o in others)
             answers.append("\n".join(lead + [f"pub {new} : goal.{new}"]) + "\n" + opened + f"{new} c =" + body.rstrip())
             continue
         if re.match(r"^pub " + NAME + r"[-_]spec :", sig):
             continue
-        h = re.match(r"^(abbrev )?(?:pub )?(" + NAME + r") : (?:\((" + NAME + r") : tie\.(" + NAME + r")\) → (.*?)|tie\.(" + NAME + r") → (.*?))\n((?:\s*unfolding [^\n]*\n)*)\2 (" + NAME + r") =(.*)$", whole, re.S)
+        h = re.match(r"^(abbrev )?(?:pub )?(" + NAME + r")\s+: (?:\((" + NAME + r") : tie\.(" + NAME + r")\) → (.*?)|tie\.(" + NAME + r") → (.*?))\n((?:\s*unfolding [^\n]*\n)*)\2 (" + NAME + r") =(.*)$", whole, re.S)
         if h:
             abbrev, name, var, _, kind, _, kind2, opens, arg, value = h.groups()
             kind = kind or kind2

@@ -1,0 +1,25 @@
+use borrow.Author.Rules.{rules}
+use native.Mathlib.Omega.{arith}
+use Prim.Native.Nat.{◌-◌}
+use mathlib.Core.Path.{◌≡◌, sym}
+use lib.ListN.{length, take}
+use Rattle.lists.proofs.Places.{length-mapped}
+use Rattle.types.specs.Capacities.{most_actors}
+use Rattle.rules.specs.Link.{untaken}
+use Rattle.link_layout.proofs.Laws.{fill-after}
+use Rattle.link_layout.proofs.taken_row.Goals as goal
+
+pub loop-i-preserved : goal.loop-i-preserved
+loop-i-preserved c =
+    let l = c.loop-i in
+    let es = c.args.t.last in
+    let n : length es ≡ most_actors = search (rules, length-mapped) in (
+      omega arith,
+      fill-after es untaken l.i l.row (omega arith) (omega arith) l.invariant.1,
+    )
+
+pub returns : goal.returns
+returns c =
+    let l = c.loop-i in
+    let e : l.i ≡ c.args.t.used = omega arith in
+    rw (sym e) l.invariant.1
