@@ -316,7 +316,7 @@ def convert(folder, crate, path, names):
             if new is None:
                 left.append("goal " + need)
                 new = need
-            if searched(c.group(2)):
+            if searched(c.group(2)) and not opened.strip():
                 continue
             body = turn(c.group(2))
             opens = [w for l in opened.split("\n") if l.strip().startswith("unfolding") for w in l.split()[1:]]
@@ -329,7 +329,7 @@ def convert(folder, crate, path, names):
             continue
         if re.match(r"^pub " + NAME + r"[-_]spec :", sig):
             continue
-        h = re.match(r"^(abbrev )?(?:pub )?(" + NAME + r")\s+: (?:\((" + NAME + r") : tie\.(" + NAME + r")\) → (.*?)|tie\.(" + NAME + r") → (.*?))\n((?:\s*unfolding [^\n]*\n)*)\2 (" + NAME + r") =(.*)$", whole, re.S)
+        h = re.match(r"^(abbrev )?(?:pub )?(" + NAME + r")\s+: (?:\((" + NAME + r") : tie\.(" + NAME + r")(?: [\w'-]+)*\) → (.*?)|tie\.(" + NAME + r")(?: [\w'-]+)* → (.*?))\n((?:\s*unfolding [^\n]*\n)*)\2 (" + NAME + r") =(.*)$", whole, re.S)
         if h:
             abbrev, name, var, _, kind, _, kind2, opens, arg, value = h.groups()
             kind = kind or kind2
