@@ -21,7 +21,7 @@ NAME = CHAR + "+"
 
 
 def alike(name):
-    name = name.replace("_", "-")
+    name = name.replace("_", "-").lower()
     for head in ("overflow-",):
         if name.startswith(head):
             name = name[len(head):]

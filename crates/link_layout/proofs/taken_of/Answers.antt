@@ -1,14 +1,20 @@
+use borrow.Author.Rules.{rules}
 use native.Mathlib.Omega.{arith}
 use Prim.Native.Nat.{◌-◌}
 use mathlib.Core.Path.{◌≡◌, sym, ap}
 use lib.ListN.{take, drop, length-drop}
 use lib.Seq.{get_or-drop}
+use Rattle.lists.specs.Lists.{pad}
 use Rattle.lists.proofs.Places.{fill_more}
 use Rattle.types.specs.Capacities.{most_actors}
 use Rattle.rules.specs.Link.{untaken}
 use Rattle.link_rows.specs.Rows.{number_in}
 use Rattle.link_layout.proofs.Laws.{taken-read}
 use Rattle.link_layout.proofs.taken_of.Goals as goal
+
+pub loop-i-init : goal.loop-i-init
+unfolding pad
+loop-i-init c = search rules
 
 pub loop-i-preserved : goal.loop-i-preserved
 loop-i-preserved c =

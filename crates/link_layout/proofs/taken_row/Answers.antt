@@ -3,11 +3,16 @@ use native.Mathlib.Omega.{arith}
 use Prim.Native.Nat.{◌-◌}
 use mathlib.Core.Path.{◌≡◌, sym}
 use lib.ListN.{length, take}
+use Rattle.lists.specs.Lists.{pad}
 use Rattle.lists.proofs.Places.{length-mapped}
 use Rattle.types.specs.Capacities.{most_actors}
 use Rattle.rules.specs.Link.{untaken}
 use Rattle.link_layout.proofs.Laws.{fill-after}
 use Rattle.link_layout.proofs.taken_row.Goals as goal
+
+pub loop-i-init : goal.loop-i-init
+unfolding pad
+loop-i-init c = search rules
 
 pub loop-i-preserved : goal.loop-i-preserved
 loop-i-preserved c =

@@ -9,40 +9,51 @@ use Rattle.link_inner.proofs.Tables.{table_is}
 use Rattle.link_table_rows.proofs.Tables.{Laid, laid_none, laid_next, rule-ok, laid_out}
 use Rattle.link_table_rows.proofs.rows_of.Goals as goal
 
-room : (s : goal.Start invariant-loop decreases-loop) → length s.args.t.rules ≡ most_rules
-room s = search (rules, length-mapped)
-
-fit : (s : goal.Start invariant-loop decreases-loop) → s.args.t.used ≤ most_rules
-fit s = (table_is s.args.t s.requires).fit
-
 pub loop-i-init : goal.loop-i-init
-loop-i-init c = (search rules, laid_none c.args.t.rules (room c))
+loop-i-init c =
+    let room : length c.args.t.rules ≡ most_rules = search (rules, length-mapped) in
+    (search rules, laid_none c.args.t.rules room)
 
 pub offset_bounds-rules-i : goal.offset_bounds-rules-i
-offset_bounds-rules-i c = omega (arith, fit c)
+offset_bounds-rules-i c =
+    let fit : c.args.t.used ≤ most_rules = (table_is c.args.t c.requires).fit in
+    omega (arith, fit)
 
 pub bounds-rules-i : goal.bounds-rules-i
-bounds-rules-i c = omega (arith, fit c)
+bounds-rules-i c =
+    let fit : c.args.t.used ≤ most_rules = (table_is c.args.t c.requires).fit in
+    omega (arith, fit)
 
 pub row_of-requires : goal.row_of-requires
-row_of-requires c = rule-ok c.args.t (room c) c.requires c.loop-i.i (search rules)
+row_of-requires c =
+    let room : length c.args.t.rules ≡ most_rules = search (rules, length-mapped) in
+    rule-ok c.args.t room c.requires c.loop-i.i (search rules)
 
 pub offset_bounds-out-i : goal.offset_bounds-out-i
-offset_bounds-out-i c = omega (arith, fit c)
+offset_bounds-out-i c =
+    let fit : c.args.t.used ≤ most_rules = (table_is c.args.t c.requires).fit in
+    omega (arith, fit)
 
 pub bounds-out-i : goal.bounds-out-i
-bounds-out-i c = omega (arith, fit c)
+bounds-out-i c =
+    let fit : c.args.t.used ≤ most_rules = (table_is c.args.t c.requires).fit in
+    omega (arith, fit)
 
 pub overflow_add-i : goal.overflow_add-i
-overflow_add-i c = omega (arith, fit c)
+overflow_add-i c =
+    let fit : c.args.t.used ≤ most_rules = (table_is c.args.t c.requires).fit in
+    omega (arith, fit)
 
 pub loop-i-preserved : goal.loop-i-preserved
 loop-i-preserved c =
+    let room : length c.args.t.rules ≡ most_rules = search (rules, length-mapped) in
+    let fit : c.args.t.used ≤ most_rules = (table_is c.args.t c.requires).fit in
     let l = c.loop-i in
-    (search rules, laid_next c.args.t.rules (room c) l.i l.out c.row_of.result (omega (arith, fit c)) l.invariant.1 c.row_of.ensures)
+    (search rules, laid_next c.args.t.rules room l.i l.out c.row_of.result (omega (arith, fit)) l.invariant.1 c.row_of.ensures)
 
 pub returns : goal.returns
 returns c =
+    let room : length c.args.t.rules ≡ most_rules = search (rules, length-mapped) in
     let l = c.loop-i in
     let e : l.i ≡ c.args.t.used = omega arith in
-    laid_out c.args.t (room c) c.requires l.out (subst (λ (n : ℕ). Laid c.args.t.rules n l.out) e l.invariant.1)
+    laid_out c.args.t room c.requires l.out (subst (λ (n : ℕ). Laid c.args.t.rules n l.out) e l.invariant.1)
