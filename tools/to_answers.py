@@ -129,7 +129,7 @@ def as_record(body, clauses):
 
 def as_told(body, clauses):
     """A lemma that gives a tuple, one part for each clause, as a record."""
-    if len(clauses) < 2 or re.search(r"\brecord \{|\belim\b|⊎_elim", body):
+    if len(clauses) < 2 or re.search(r"(^|\bin)\s*(record \{|elim\b|⊎_elim)", body):
         return None
     text = body.strip()
     parts = " ".join(f"{n} = told.{k};" for k, n in enumerate(clauses))
@@ -159,6 +159,11 @@ def flatten(body, steps, left, arms=(), raws=(), calls=None, own=None):
             left.append("step " + old)
             return m.group(0)
         return "c." + new
+    while True:
+        m = re.search(r"let (" + NAME + r") = (c\." + NAME + r"\.given) in\s*", body)
+        if not m:
+            break
+        body = tokens_field(body[: m.start()] + body[m.end():], m.group(1), m.group(2))
     for old, way, new in arms:
         body = re.sub(r"(?<![\w'₀-₉.-])c\." + re.sub(r"[-_]", "[-_]", re.escape(old).replace("\\-", "-")) + re.escape("." + ".".join(way)) + r"(?![\w'₀-₉-])", "c." + new, body)
     body = re.sub(r"(?<![\w'₀-₉.-])c\.well-formed", "c.well_formed", body)

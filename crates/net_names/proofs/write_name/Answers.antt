@@ -6,17 +6,14 @@ use Rattle.net_names.proofs.write_name.Goals as goal
 pub returns-in-Ordered : goal.returns-in-Ordered
 unfolding name_of
 returns-in-Ordered c =
-    let told = (rw c.in-Ordered.is c.write_bytes.ensures) in
-    record { value = told.0; out_after = told.1; }
+    record { value = rw c.in-Ordered.is c.write_bytes.ensures.value; out_after = rw c.in-Ordered.is c.write_bytes.ensures.out_after; }
 
 pub returns-in-UnorderedDuplicating : goal.returns-in-UnorderedDuplicating
 unfolding name_of
 returns-in-UnorderedDuplicating c =
-    let told = (rw c.in-UnorderedDuplicating.is c.write_bytes-in-UnorderedDuplicating.ensures) in
-    record { value = told.0; out_after = told.1; }
+    record { value = rw c.in-UnorderedDuplicating.is c.write_bytes-in-UnorderedDuplicating.ensures.value; out_after = rw c.in-UnorderedDuplicating.is c.write_bytes-in-UnorderedDuplicating.ensures.out_after; }
 
 pub returns-in-UnorderedNonDuplicating : goal.returns-in-UnorderedNonDuplicating
 unfolding name_of
 returns-in-UnorderedNonDuplicating c =
-    let told = (rw c.in-UnorderedNonDuplicating.is c.write_bytes-in-UnorderedNonDuplicating.ensures) in
-    record { value = told.0; out_after = told.1; }
+    record { value = rw c.in-UnorderedNonDuplicating.is c.write_bytes-in-UnorderedNonDuplicating.ensures.value; out_after = rw c.in-UnorderedNonDuplicating.is c.write_bytes-in-UnorderedNonDuplicating.ensures.out_after; }

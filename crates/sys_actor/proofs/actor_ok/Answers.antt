@@ -52,6 +52,7 @@ returns c =
     ∙ c.if-not-durable_ok.false in
     let h = le-leb _ _ c.if-l-gt-LAST_STATE.false in
     let e = sym c.stored_ok.ensures ∙ c.if-not-stored_ok.false in
-    tells (actor_fine c.args.actors a) c.is_quiet.result
+    let told = tells (actor_fine c.args.actors a) c.is_quiet.result
     (λ f. actor-laid a (record { pending = p; taken = t; stored-pending = q; stored-taken = u; word = w }) (fine-laid-out c.args.actors a f))
-    (rw (d, h, e) (c.is_quiet.ensures ∙ sym (and-true _)))
+    (rw (d, h, e) (c.is_quiet.ensures ∙ sym (and-true _))) in
+    record { value = told.0; laid = told.1; }

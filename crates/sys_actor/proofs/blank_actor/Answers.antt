@@ -70,5 +70,6 @@ returns c =
     let z = sym c.zero_durable.ensures ∙ c.if-not-zero_durable.false in
     let n : a.timers.0 ≡ 0 = c.if-a-ne0.false in
     let m : a.link.state ≡ 0 = c.if-l-ne0.false in
-    tells (blank_actor a) c.zero_durable-2.result (blank-zero a (record { pending = p; taken = t; stored-pending = q; stored-taken = u; word = w }))
-    (rw (x, eq-eqb a.timers.0 0 n, eq-eqb a.link.state 0 m, y, z) (c.zero_durable-2.ensures ∙ sym (and-true _)))
+    let told = tells (blank_actor a) c.zero_durable-2.result (blank-zero a (record { pending = p; taken = t; stored-pending = q; stored-taken = u; word = w }))
+    (rw (x, eq-eqb a.timers.0 0 n, eq-eqb a.link.state 0 m, y, z) (c.zero_durable-2.ensures ∙ sym (and-true _))) in
+    record { value = told.0; zero = told.1; }
