@@ -26,6 +26,7 @@ use Rattle.sys_system.specs.contracts.System as system
 -- What is told of each element's value is told of each element.
 pub each-says : {D A : Type 0} (f : D → List Val → Fml) (into : A → D) (P : A → Type 0) → ((x : A) (u : List Val) → shadow (f (into x) u) → P x)
     → (xs : List A) (us : List Val) → shadow (each D f (map into xs) us) → (x : A) → x ∈ xs → P x
+each-says {D = D} {A = A} f into P h [] us g x m = elim m [ ]
 each-says f into P h (y ∷ xs) [] g x m = absurd g
 each-says f into P h (y ∷ xs) (u ∷ us) g x (Memᴰ.head e) = rw e (h y (u ∷ []) g.0)
 each-says f into P h (y ∷ xs) (u ∷ us) g x (Memᴰ.tail m) = each-says f into P h xs us g.1 x m
