@@ -75,8 +75,8 @@ def contracts(root):
                     depth += {"(": 1, ")": -1}.get(text[at], 0)
                     at += 1
                 params = text[m.end(): at - 1]
-                lent = re.findall(r"(\w+): &mut", params)
-                if re.search(r"&mut self", params):
+                lent = re.findall(r"(\w+): &", params)
+                if re.search(r"&(mut )?self", params):
                     lent.insert(0, "self")
                 end = re.compile(r"^ *\{ *$|\{$", re.M).search(text, at)
                 stop = re.compile(r"^" + (m.group(2) or "") + r"\{", re.M).search(text, at)

@@ -2,7 +2,7 @@
 -- Assumes nothing.
 use mathlib.Core.Path.{◌≡◌}
 use mathlib.Core.List.Memᴰ
-use mathlib.Core.List.{List, [], ◌∷◌, map}
+use mathlib.Core.List.{List, [], ◌∷◌}
 use lib.ListN.{length}
 use mir.Val.{Val}
 use base.Fml.{Fml}
@@ -24,12 +24,12 @@ use Rattle.sys_system.specs.declared.System.{System}
 use Rattle.sys_system.specs.contracts.System as system
 
 -- What is told of each element's value is told of each element.
-pub each-says : {D A : Type 0} (f : D → List Val → Fml) (into : A → D) (P : A → Type 0) → ((x : A) (u : List Val) → shadow (f (into x) u) → P x)
-    → (xs : List A) (us : List Val) → shadow (each D f (map into xs) us) → (x : A) → x ∈ xs → P x
-each-says {D = D} {A = A} f into P h [] us g x m = elim m [ ]
-each-says f into P h (y ∷ xs) [] g x m = absurd g
-each-says f into P h (y ∷ xs) (u ∷ us) g x (Memᴰ.head e) = rw e (h y (u ∷ []) g.0)
-each-says f into P h (y ∷ xs) (u ∷ us) g x (Memᴰ.tail m) = each-says f into P h xs us g.1 x m
+pub each-says : {A : Type 0} (f : A → List Val → Fml) (P : A → Type 0) → ((x : A) (u : List Val) → shadow (f x u) → P x)
+    → (xs : List A) (us : List Val) → shadow (each A f xs us) → (x : A) → x ∈ xs → P x
+each-says f P h [] us g x m = elim m [ ]
+each-says f P h (y ∷ xs) [] g x m = absurd g
+each-says f P h (y ∷ xs) (u ∷ us) g x (Memᴰ.head e) = rw e (h y (u ∷ []) g.0)
+each-says f P h (y ∷ xs) (u ∷ us) g x (Memᴰ.tail m) = each-says f P h xs us g.1 x m
 
 pub record TableTyped (t : Table) : Type 0 where
   pub room : length t.rules ≡ most_rules
@@ -42,17 +42,17 @@ pub record SystemTyped (s : System) : Type 0 where
   pub actor : (a : Actor) → a ∈ s.actors → Typed a
   pub table : (t : Table) → t ∈ s.tables → TableTyped t
 
-rule-says : (r : Rule) (u : List Val) → shadow ((rule.the_field).row.own_val ((rule.the_field).into r) u) → length r.commands ≡ most_commands
+rule-says : (r : Rule) (u : List Val) → shadow ((rule.the_row).own_val r u) → length r.commands ≡ most_commands
 rule-says r u g = search (rules, length-mapped)
 
-pub table-says : (t : Table) (u : List Val) → shadow ((table.the_field).row.own_val ((table.the_field).into t) u) → TableTyped t
+pub table-says : (t : Table) (u : List Val) → shadow ((table.the_row).own_val t u) → TableTyped t
 table-says t u g = record {
   room = search (rules, length-mapped);
-  slots = each-says (rule.the_field).row.own_val (rule.the_field).into (λ r. length r.commands ≡ most_commands) rule-says t.rules g.1.1.0.0
+  slots = each-says (rule.the_row).own_val (λ r. length r.commands ≡ most_commands) rule-says t.rules g.1.1.0.0
       g.1.1.0.1.1;
 }
 
-actor-says : (a : Actor) (u : List Val) → shadow ((actor.the_field).row.own_val ((actor.the_field).into a) u) → Typed a
+actor-says : (a : Actor) (u : List Val) → shadow ((actor.the_row).own_val a u) → Typed a
 actor-says a u g =
     let l = g.1.1.1.1.0.1.1.0 in let s = g.1.1.1.1.1.0.1.1.1.0 in
     record {
@@ -68,6 +68,6 @@ system-says s u g = record {
   entries = search (rules, length-mapped, g.1.1.1.0);
   actors = search (rules, length-mapped, g.1.1.1.1.0);
   tables = search (rules, length-mapped, g.1.1.1.1.1.0);
-  actor = each-says (actor.the_field).row.own_val (actor.the_field).into Typed actor-says s.actors g.1.1.1.1.0.0 g.1.1.1.1.0.1.1;
-  table = each-says (table.the_field).row.own_val (table.the_field).into TableTyped table-says s.tables g.1.1.1.1.1.0.0 g.1.1.1.1.1.0.1.1;
+  actor = each-says (actor.the_row).own_val Typed actor-says s.actors g.1.1.1.1.0.0 g.1.1.1.1.0.1.1;
+  table = each-says (table.the_row).own_val TableTyped table-says s.tables g.1.1.1.1.1.0.0 g.1.1.1.1.1.0.1.1;
 }

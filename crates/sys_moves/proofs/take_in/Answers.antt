@@ -1,0 +1,36 @@
+use Rattle.link_tables.specs.Rows.{orders}
+use Rattle.sys_moves.proofs.Taken.{noticed-laid, noticed-places, noticed-numbers, noticed-settled}
+use Rattle.sys_moves.proofs.take_in.Goals as goal
+
+pub take_number-requires : goal.take_number-requires
+take_number-requires c = (c.requires.1.room, c.requires.3, c.requires.1.tail)
+
+pub settle-requires : goal.settle-requires
+settle-requires c =
+    let a = c.args in
+    let os = orders a.row.now a.source a.value in
+    let w1 = c.take_number.new.live in (
+      c.requires.0,
+      noticed-laid a.source a.number os a.live.now a.pend.now c.requires.1 w1 c.take_number.ensures,
+      c.requires.2,
+      noticed-places a.source a.number os a.live.now a.pend.now c.requires.1 w1 c.take_number.ensures c.requires.4,
+      noticed-numbers a.source a.number os a.live.now a.pend.now c.requires.1 w1 c.take_number.ensures c.requires.5,
+    )
+
+pub store-requires : goal.store-requires
+store-requires c = (
+  c.settle.ensures.laid,
+  c.requires.6,
+)
+
+pub returns : goal.returns
+returns c =
+    let a = c.args in
+    let os = orders a.row.now a.source a.value in
+    let w1 = c.take_number.new.live in (
+      noticed-settled a.source a.number os a.live.now a.pend.now c.requires.1 w1
+          c.take_number.ensures a.timers a.state
+          c.settle.new.live c.settle.new.pend
+          c.settle.ensures,
+      c.store.ensures,
+    )
