@@ -1,0 +1,11 @@
+-- The flag picks the test: a free place is tested for zero, a used one as an actor.
+use Rattle.lists.specs.Lists.{choose}
+use Rattle.sys_formed.proofs.actor_passes.Goals as goal
+
+pub returns-then-free : goal.returns-then-free
+unfolding choose
+returns-then-free c = rw c.if-free.true c.blank_actor.ensures.value
+
+pub returns : goal.returns
+unfolding choose
+returns c = rw c.if-free.false c.actor_ok.ensures.value
