@@ -26,7 +26,7 @@ returns-then-is_done c =
     let x : Rows = rows_of a.c.now a.live.now a.pend.now a.kept.now a.stored.now in
     let rs = rules_in a.table.now a.rules in
     let l = c.wake-s.new in
-    let z : Rows = rows_of l.0 l.1.0 l.1.1.0 l.1.1.1.0 l.1.1.1.1.0 in
+    let z : Rows = rows_of l.c l.live l.pend l.kept l.stored in
     λ count.
     stepped-done count a.i rs a.kind a.used a.len x c.requires.0 (is-crashed _ c.if-mark-eq0.false) c.wake-s.result z (c.wake-s.ensures count)
     (sym c.is_done.ensures ∙ c.if-is_done.true)
@@ -37,7 +37,7 @@ returns c =
     let x : Rows = rows_of a.c.now a.live.now a.pend.now a.kept.now a.stored.now in
     let rs = rules_in a.table.now a.rules in
     let l = c.wake-s.new in
-    let z : Rows = rows_of l.0 l.1.0 l.1.1.0 l.1.1.1.0 l.1.1.1.1.0 in
+    let z : Rows = rows_of l.c l.live l.pend l.kept l.stored in
     λ count.
     stepped-back count a.i rs a.kind a.used a.len x c.requires.0 (is-crashed _ c.if-mark-eq0.false) c.wake-s.result z (c.wake-s.ensures count)
     (sym c.is_done.ensures ∙ c.if-is_done.false)

@@ -34,6 +34,6 @@ returns c =
     let st = starts_by a.table.now a.rules c.requires.1 (saved_in a.live.now) c.start_event-event.result c.start_value-value.result
     c.start_row-row.result c.start_event-event.ensures c.start_value-value.ensures c.start_row-row.ensures in
     let l = c.by_rule.new in
-    let z : Rows = rows_of l.0 l.1.0 l.1.1.0 l.1.1.1.0 l.1.1.1.1.0 in
+    let z : Rows = rows_of l.c l.live l.pend l.kept l.stored in
     λ count. woken-by a.me a.kind a.used a.len (rules_in a.table.now a.rules) x c.with_network-timers.result c.with_network-timers.ensures
     c.requires.2 c.start_row-row.result c.start_value-value.result st count c.by_rule.result z c.by_rule.ensures

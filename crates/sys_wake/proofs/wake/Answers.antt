@@ -21,7 +21,7 @@ returns-then-is_done c =
     let x : Rows = rows_of a.c.now a.live.now a.pend.now a.kept.now a.stored.now in
     let rs = rules_in a.table.now a.rules in
     let l = c.start-s.new in
-    let z : Rows = rows_of l.0 l.1.0 l.1.1.0 l.1.1.1.0 l.1.1.1.1.0 in
+    let z : Rows = rows_of l.c l.live l.pend l.kept l.stored in
     λ count. woken-done count a.me rs a.kind a.used a.len x c.load.new.live c.load.new.pend c.load.ensures
     c.start-s.result z (c.start-s.ensures count) (sym c.is_done.ensures ∙ c.if-is_done.true)
 
@@ -31,6 +31,6 @@ returns c =
     let x : Rows = rows_of a.c.now a.live.now a.pend.now a.kept.now a.stored.now in
     let rs = rules_in a.table.now a.rules in
     let l = c.start-s.new in
-    let z : Rows = rows_of l.0 l.1.0 l.1.1.0 l.1.1.1.0 l.1.1.1.1.0 in
+    let z : Rows = rows_of l.c l.live l.pend l.kept l.stored in
     λ count. woken-back count a.me rs a.kind a.used a.len x c.load.new.live c.load.new.pend c.load.ensures
     c.start-s.result z (c.start-s.ensures count) c.requires.0 (sym c.is_done.ensures ∙ c.if-is_done.false)
