@@ -85,7 +85,7 @@ returns-then-not-actors_pass-2 c =
     let told = (let actors-tested : actors_used c.args.s ≡ c.actors_pass.result = let s = c.args.s in actors-used s.count (take s.count s.actors) ∙ sym c.actors_pass.ensures in
     let tables-tested : tables_used c.args.s ≡ c.tables_pass.result = let s = c.args.s in tables-used (take s.count s.tables) ∙ sym c.tables_pass.ensures in
     let free-tested : actors_free c.args.s ≡ c.actors_pass-2.result = let s = c.args.s in
-    actors-free s.count s.count s.actors (typed c).actors ∙ sym c.actors_pass-2.ensures in
+    actors-free s.count s.count s.actors (system-says c.args.s _ c.well_formed.0).actors ∙ sym c.actors_pass-2.ensures in
     let some : leb 1 c.args.s.count ≡ true = le-leb _ _ c.if-count-lt1.false in
     let few : leb c.args.s.count most_actors ≡ true = le-leb _ _ c.if-count-gt-MOST_ACTORS.false in
     let net : net_formed c.args.s.network c.args.s.count ≡ true = sym c.net_ok.ensures.value ∙ c.if-not-net_ok.false in
@@ -102,14 +102,15 @@ returns c =
     let told = (let actors-tested : actors_used c.args.s ≡ c.actors_pass.result = let s = c.args.s in actors-used s.count (take s.count s.actors) ∙ sym c.actors_pass.ensures in
     let tables-tested : tables_used c.args.s ≡ c.tables_pass.result = let s = c.args.s in tables-used (take s.count s.tables) ∙ sym c.tables_pass.ensures in
     let free-tested : actors_free c.args.s ≡ c.actors_pass-2.result = let s = c.args.s in
-    actors-free s.count s.count s.actors (typed c).actors ∙ sym c.actors_pass-2.ensures in
+    actors-free s.count s.count s.actors (system-says c.args.s _ c.well_formed.0).actors ∙ sym c.actors_pass-2.ensures in
     let some : leb 1 c.args.s.count ≡ true = le-leb _ _ c.if-count-lt1.false in
     let few : leb c.args.s.count most_actors ≡ true = le-leb _ _ c.if-count-gt-MOST_ACTORS.false in
     let net : net_formed c.args.s.network c.args.s.count ≡ true = sym c.net_ok.ensures.value ∙ c.if-not-net_ok.false in
     let actors : actors_used c.args.s ≡ true = actors-tested ∙ c.if-not-actors_pass.false in
     let tables : tables_used c.args.s ≡ true = tables-tested ∙ c.if-not-tables_pass.false in
     let free : actors_free c.args.s ≡ true = free-tested ∙ c.if-not-actors_pass-2.false in
-    let typed : SystemTyped c.args.s = system-says c.args.s _ c.well_formed.0 in let s = b.args.s in let y = typed b in
+    let s = c.args.s in
+    let y : SystemTyped s = system-says s _ c.well_formed.0 in
     let e = tables-free s.count s.tables y.tables ∙ sym c.tables_pass-2.ensures in
     tells _ _ (fine-laid s y)
     (sym (fine-tests s y ∙ rw (some, few, net, actors, tables, free) (and-true _ ∙ e)))) in
