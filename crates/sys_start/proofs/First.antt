@@ -47,6 +47,7 @@ module _ {A : Type 0} (n : ℕ) (z : A) where
 -- ---- the tables
 -- What is told of each element of an array is told of each table in it.
 each-told : (xs : List Table) (us : List Val) → shadow (each Table (row table.the_type).own_val xs us) → (t : Table) → t ∈ xs → TableTyped t
+each-told [] us g t m = elim m [ ]
 each-told (x ∷ xs) [] g t m = absurd g
 each-told (x ∷ xs) (u ∷ us) g t (Memᴰ.head e) = rw e (table-says x (u ∷ []) g.0)
 each-told (x ∷ xs) (u ∷ us) g t (Memᴰ.tail m) = each-told xs us g.1 t m
