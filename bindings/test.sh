@@ -6,7 +6,8 @@ PATH=${RATTLE_HOME:+$RATTLE_HOME/bin:}$PATH
 out=target/bindings
 mkdir -p "$out"
 
-rt staticlib replay_c
-gcc -O2 -Wall -Wextra -Werror -o "$out/example_c" bindings/example.c target/staticlib/libreplay_c.a
-rustc --edition 2021 -O -D warnings -o "$out/example_rust" bindings/example.rs -L native=target/staticlib -l static=replay_c
+(cd crates/replay_c && rt lib)
+made=crates/replay_c/out
+gcc -O2 -Wall -Wextra -Werror -o "$out/example_c" bindings/example.c "$made/libreplay_c.a"
+rustc --edition 2021 -O -D warnings -o "$out/example_rust" bindings/example.rs -L "native=$made" -l static=replay_c
 crates/replay/samples/test.sh "$out/example_c" "$out/example_rust"

@@ -137,5 +137,5 @@ room-line p k = record { fits = p.0; small = omega (arith, p.1) }
 -- what the code of a line promises
 pub line-told
     : {w : Bool} {at end : ℕ} {l out left : List ℕ} → Piece w at l out end left → length l ≤ 80
-    → (end ≡ at + length l) × ((left ≡ put w at l out) × (end ≤ at + 80))
-line-told p k = (p.next, (p.bytes, omega (arith, p.next)))
+    → (end ≡ at + length l) × (left ≡ put w at l out) × (end ≤ at + 80)
+line-told p k = (p.next, p.bytes, omega (arith, p.next))

@@ -1,6 +1,6 @@
 -- An answer that is the image of a reading has its number and its values: what was put into an array is what is in use there.
 -- Assumes nothing.
-use Prim.Native.Nat.{ℕ, ◌-◌}
+use Prim.Native.Nat.{ℕ}
 use mathlib.Core.Path.{◌≡◌, refl, sym, ap, ap₂, ◌∙◌}
 use mathlib.Core.List.{List, [], ◌∷◌, map}
 use lib.ListN.{length, take, length-map}
