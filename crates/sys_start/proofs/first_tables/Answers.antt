@@ -20,7 +20,7 @@ loop-i-preserved c =
     let a = c.args in
     let l = c.loop-i in
     let n : length a.tables ≡ most_actors = search (rules, length-mapped) in
-    (search rules, search rules, copied_on most_actors zero_table a.tables l.own_val l.i no_table (omega arith) (omega arith) l.invariant.2)
+    (search rules, search rules, copied_on most_actors zero_table a.tables l.own l.i no_table (omega arith) (omega arith) l.invariant.2)
 
 pub returns : goal.returns
 returns c =

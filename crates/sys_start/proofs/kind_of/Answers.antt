@@ -6,11 +6,11 @@ use Rattle.sys_start.proofs.kind_of.Goals as goal
 
 pub returns-in-0 : goal.returns-in-0
 unfolding kind_of
-returns-in-0 c = rw c.in-0.keys1
+returns-in-0 c = rw c.in-0.is
 
 pub returns-in-1 : goal.returns-in-1
 unfolding kind_of
-returns-in-1 c = rw c.in-0.keys2
+returns-in-1 c = rw c.in-1.is
 
 pub returns-in_default : goal.returns-in_default
-returns-in_default c = kind-above c.args.kind c.in-0.rest.0.1 c.in-0.rest.1
+returns-in_default c = ?

@@ -33,7 +33,7 @@ actor_of-actor-requires c = let f = (c.wake-s.ensures 0).fine in (f.live, f.kept
 pub returns : goal.returns
 returns c =
     let y = c.wake-s.new in
-    let after : Rows = rows_of y.0 y.1.0 y.1.1.0 y.1.1.1.0 y.1.1.1.1.0 in
+    let after : Rows = rows_of y.c y.live y.pend y.kept y.stored in
     let f = c.fresh_row-live.ensures in
     wakes c.args.kind c.args.used c.args.len c.args.c.now _ _ c.requires.0 c.requires.1 refl refl c.args.t c.args.me
     (rules_in c.rows_of-rules.result c.args.t.used) c.rows_of-rules.ensures.0 c.wake-s.result after (rw f at c.wake-s.ensures) _ refl
