@@ -1,5 +1,6 @@
 -- `kind_of` meets its contract: what is neither 0 nor 1 is above them.
 -- Assumes nothing.
+use native.Mathlib.Omega.{arith}
 use Rattle.rules.specs.Network.{kind_of}
 use Rattle.sys_start.proofs.First.{kind-above}
 use Rattle.sys_start.proofs.kind_of.Goals as goal
@@ -13,4 +14,4 @@ unfolding kind_of
 returns-in-1 c = rw c.in-1.is
 
 pub returns-in_default : goal.returns-in_default
-returns-in_default c = ?
+returns-in_default c = kind-above c.args.kind (λ e. omega arith) (λ e. omega arith)
