@@ -1,0 +1,11 @@
+-- The place goes up by each action that is read, and what is put stays within the buffer.
+use Prim.Native.Nat.{◌-◌, ◌≤◌}
+use mathlib.Core.Path.{◌≡◌}
+use lib.ListN.{length}
+use Rattle.test_states.proofs.states_from.Given as goal
+
+abbrev pub invariant-loop-a : goal.invariant-loop-a
+invariant-loop-a l = (length l.out ≡ length l.initial.out) × (l.end ≤ length l.out)
+
+abbrev pub decreases-loop-a : goal.decreases-loop-a
+decreases-loop-a l = length l.script - l.at
