@@ -1,6 +1,6 @@
 -- The lists that the structs hold, the structs that hold the lists, and the whole tests of a durable part and of what is stored.
 -- Assumes nothing.
-use Rattle.std.specs.Prelude.{ℕ, Bool, true, false, not, ◌||◌, [], List, ◌∷◌, length, take, drop, leb, eqb}
+use Rattle.std.specs.Prelude.{ℕ, Bool, true, false, ◌||◌, [], List, ◌∷◌, length, take, drop, leb, eqb}
 use Rattle.std.proofs.Math.Option.{Option, none, some}
 use Rattle.lists.specs.Lists.{choose, all, every, pad}
 use Rattle.types.specs.Capacities.{most_pending, most_actors}

@@ -1,7 +1,7 @@
 -- A well-formed network is ready for a change, and a change of a ready one gives a ready one: a send keeps the order and is refused past the room,
 -- a removal only takes away.
 -- Assumes nothing.
-use Prim.Native.Nat.{ℕ, ◌-◌, ◌≤◌}
+use Prim.Native.Nat.{ℕ, ◌≤◌}
 use native.Mathlib.Omega.{arith}
 use mathlib.Core.Path.{◌≡◌, refl, sym, ap}
 use mathlib.Core.Bool.{Bool, true, false}

@@ -1,6 +1,6 @@
 -- A run of commands, on the way: what is to be run from the entry is what is to be run of the rest from here.
 -- Assumes nothing.
-use Prim.Native.Nat.{ℕ, zero, suc, ◌+◌, ◌-◌, ◌≤◌}
+use Prim.Native.Nat.{ℕ, zero, suc, ◌+◌, ◌≤◌}
 use native.Mathlib.Omega.{arith}
 use mathlib.Core.Path.{◌≡◌, refl, sym, ap, ◌∙◌}
 use mathlib.Core.Bool.{true, false}
@@ -13,7 +13,6 @@ use Rattle.types.specs.declared.Kind.{Kind}
 use Rattle.answers.specs.declared.Answer.TheVariants.{Done}
 use Rattle.types.specs.declared.LastMessage.{LastMessage}
 use Rattle.types.specs.declared.InnerCommand.{InnerCommand}
-use Rattle.types.specs.declared.InnerCommand.TheVariants as inner
 use Rattle.rules.specs.Outcome.{Room}
 use Rattle.rules.specs.Link.{Command}
 use Rattle.rules.specs.System.{Actor, run_commands}

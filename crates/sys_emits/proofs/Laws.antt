@@ -21,7 +21,7 @@ use Rattle.answers.specs.Answers.{answer_of}
 use Rattle.rules.specs.Outcome.{Outcome, done, refused, bind, guard}
 use Rattle.rules.specs.Timers.{set_timer, cancel_timer}
 use Rattle.rules.specs.Network.{Net, send, sending, fits}
-use Rattle.rules.specs.Link.{Command, Set, Cancel, Send}
+use Rattle.rules.specs.Link.{Command, Set, Cancel}
 use Rattle.rules.specs.System.{Actor, Sys, with_timers, with_net, run_commands}
 use Rattle.sys_seat.specs.Seat.{Around, holding}
 use Rattle.sys_seat.proofs.Seats.{run-set, run-cancel}

@@ -12,7 +12,6 @@ use Rattle.sys_actor.proofs.Laws.{stored-parts}
 use Rattle.types.specs.Capacities.{most_pending, most_actors, last_state}
 use Rattle.types.specs.declared.Rule.{Rule}
 use Rattle.rules.specs.Link as rules
-use Rattle.rules.specs.System as system
 use Rattle.link_timers.specs.Views.{listed}
 use Rattle.link_timers.proofs.Listed.{timers-listed}
 use Rattle.link_durable.specs.declared.Durable.{Durable}

@@ -1,6 +1,6 @@
 -- A rule's commands: the link's output, run, is what the code does.
 -- Assumes nothing.
-use Prim.Native.Nat.{ℕ, suc, ◌+◌, ◌-◌, ◌≤◌}
+use Prim.Native.Nat.{ℕ, suc, ◌+◌, ◌≤◌}
 use native.Mathlib.Omega.{arith}
 use mathlib.Core.Path.{◌≡◌, refl, sym, ap, ◌∙◌}
 use mathlib.Core.Bool.{Bool, true, false}
@@ -17,7 +17,6 @@ use Rattle.types.specs.declared.LastMessage.{LastMessage}
 use Rattle.types.specs.declared.InnerCommand.{InnerCommand}
 use Rattle.types.specs.declared.InnerCommand.TheVariants as inner
 use Rattle.answers.specs.Answers.{answer_of}
-use Rattle.rules.specs.Inner.{told}
 use Rattle.rules.specs.Outcome.{Outcome, done, refused, bind}
 use Rattle.rules.specs.Link.{Durable, Command, Save, Output, process, durably, then_save, output}
 use Rattle.rules.specs.System.{Actor, Sys, with_timers, with_storage, run_commands}

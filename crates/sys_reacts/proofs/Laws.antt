@@ -22,7 +22,7 @@ use Rattle.types.specs.declared.Message.TheVariants.{Ack}
 use Rattle.types.specs.declared.InnerCommand.{InnerCommand}
 use Rattle.answers.specs.Answers.{answer_of, answer_number}
 use Rattle.rules.specs.Outcome.{refused, Room}
-use Rattle.rules.specs.Network.{send, len}
+use Rattle.rules.specs.Network.{send}
 use Rattle.rules.specs.Link.{Durable, Command, Set, Cancel, Send, Save, process}
 use Rattle.rules.specs.System.{Actor, with_net, run_commands}
 use Rattle.sys_seat.specs.Seat.{Around}

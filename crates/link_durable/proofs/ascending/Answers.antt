@@ -2,9 +2,7 @@ use Rattle.lists.proofs.Walks.{pairs-on}
 use borrow.Author.Rules.{rules}
 use borrow.Author.Tests.{lt-ltb, le-ltb}
 use native.Mathlib.Omega.{arith}
-use Prim.Native.Nat.{◌-◌}
 use mathlib.Core.Path.{◌≡◌}
-use mathlib.Core.Bool.{true}
 use lib.ListN.{length}
 use Rattle.lists.proofs.Places.{length-mapped}
 use Rattle.lists.proofs.Sorted.{chain_first, chain-fails}

@@ -1,5 +1,4 @@
 -- From place i on the test says what it said at the start: a place that passes changes nothing, one that fails decides.
-use borrow.Author.Rules.{rules}
 use Prim.Native.Nat.{◌-◌}
 use mathlib.Core.Path.{◌≡◌}
 use lib.ListN.{take, drop}

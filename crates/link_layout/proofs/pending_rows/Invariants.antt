@@ -1,7 +1,7 @@
 -- `link_layout::pending_rows` meets its contract. The rows up to i are the records up to i, each as its words, and the others are zero.
 -- Assumes nothing.
 use Prim.Native.Nat.{◌≤◌, ◌-◌}
-use mathlib.Core.Path.{◌≡◌, ap}
+use mathlib.Core.Path.{◌≡◌}
 use mathlib.Core.List.{map}
 use lib.ListN.{take}
 use Rattle.lists.specs.Lists.{pad}

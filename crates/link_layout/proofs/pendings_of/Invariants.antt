@@ -1,7 +1,7 @@
 -- `link_layout::pendings_of` meets its contract. The records up to i are the rows up to i, and the others are zero.
 -- Assumes nothing.
 use Prim.Native.Nat.{◌≤◌, ◌-◌}
-use mathlib.Core.Path.{◌≡◌, ap}
+use mathlib.Core.Path.{◌≡◌}
 use mathlib.Core.List.{map}
 use lib.ListN.{take}
 use Rattle.lists.specs.Lists.{pad}

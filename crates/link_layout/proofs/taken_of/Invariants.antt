@@ -1,7 +1,7 @@
 -- `link_layout::taken_of` meets its contract. Up to i stand the numbers of the row from place 8 on, and the others are zero.
 -- Assumes nothing.
 use Prim.Native.Nat.{◌≤◌, ◌-◌}
-use mathlib.Core.Path.{◌≡◌, ap}
+use mathlib.Core.Path.{◌≡◌}
 use mathlib.Core.List.{map}
 use lib.ListN.{take, drop}
 use Rattle.lists.specs.Lists.{pad}

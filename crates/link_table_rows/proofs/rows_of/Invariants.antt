@@ -1,5 +1,4 @@
 -- The rows before place i are laid out, and the others are zero.
-use borrow.Author.Rules.{rules}
 use Prim.Native.Nat.{◌≤◌, ◌-◌}
 use Rattle.link_table_rows.proofs.Tables.{Laid}
 use Rattle.link_table_rows.proofs.rows_of.Given as goal

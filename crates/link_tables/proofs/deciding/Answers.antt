@@ -2,7 +2,6 @@
 use native.Mathlib.Omega.{arith}
 use mathlib.Core.Path.{sym, ◌∙◌}
 use Rattle.link_tables.proofs.Replies.{none-decides, one-ignores, one-decides}
-use borrow.Author.Rules.{rules}
 use Rattle.link_tables.proofs.deciding.Goals as goal
 
 pub first_match-at-requires : goal.first_match-at-requires

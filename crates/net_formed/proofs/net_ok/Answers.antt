@@ -17,7 +17,7 @@ unfolding every
 returns-then-used-gt-MOST_ENTRIES c =
     let told = (let room : length c.args.n.entries ≡ most_entries = search (rules, length-mapped) in
     told c.args.n room c.args.actors false (rw (lt-leb _ _ c.if-used-gt-MOST_ENTRIES.true))) in
-    record { value = told.0; laid = told.1; }
+    record { value = told.0; laid = told.1 }
 
 pub returns-then-not-all_pass : goal.returns-then-not-all_pass
 unfolding every
@@ -27,7 +27,7 @@ returns-then-not-all_pass c =
       le-leb _ _ c.if-used-gt-MOST_ENTRIES.false,
       sym c.all_pass.ensures ∙ c.if-not-all_pass.true,
     ))) in
-    record { value = told.0; laid = told.1; }
+    record { value = told.0; laid = told.1 }
 
 pub returns-then-not-all_pass-2 : goal.returns-then-not-all_pass-2
 unfolding every
@@ -38,7 +38,7 @@ returns-then-not-all_pass-2 c =
       sym c.all_pass.ensures ∙ c.if-not-all_pass.false,
       sym c.all_pass-2.ensures ∙ c.if-not-all_pass-2.true,
     ))) in
-    record { value = told.0; laid = told.1; }
+    record { value = told.0; laid = told.1 }
 
 pub returns-then-not-all_pass-3 : goal.returns-then-not-all_pass-3
 unfolding every
@@ -50,7 +50,7 @@ returns-then-not-all_pass-3 c =
       sym c.all_pass-2.ensures ∙ c.if-not-all_pass-2.false,
       sym c.all_pass-3.ensures ∙ c.if-not-all_pass-3.true,
     ))) in
-    record { value = told.0; laid = told.1; }
+    record { value = told.0; laid = told.1 }
 
 pub returns-then-not-in_order : goal.returns-then-not-in_order
 unfolding every
@@ -63,7 +63,7 @@ returns-then-not-in_order c =
       sym c.all_pass-3.ensures ∙ c.if-not-all_pass-3.false,
       sym c.in_order.ensures ∙ c.if-not-in_order.true,
     ))) in
-    record { value = told.0; laid = told.1; }
+    record { value = told.0; laid = told.1 }
 
 pub returns : goal.returns
 unfolding every
@@ -76,4 +76,4 @@ returns c =
       sym c.all_pass-3.ensures ∙ c.if-not-all_pass-3.false,
       sym c.in_order.ensures ∙ c.if-not-in_order.false,
     ) (and-true _ ∙ sym c.last_ok.ensures))) in
-    record { value = told.0; laid = told.1; }
+    record { value = told.0; laid = told.1 }

@@ -1,7 +1,7 @@
 -- After i turns the array holds the cells of the first i entries, zero behind. Each can be read back, as its types say.
 -- Assumes nothing.
 use Prim.Native.Nat.{◌≤◌, ◌-◌}
-use mathlib.Core.Path.{◌≡◌, ap}
+use mathlib.Core.Path.{◌≡◌}
 use mathlib.Core.List.{map}
 use lib.ListN.{take}
 use Rattle.lists.specs.Lists.{pad}

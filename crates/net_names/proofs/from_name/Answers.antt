@@ -10,7 +10,7 @@ pub returns-then-same_bytes : goal.returns-then-same_bytes
 unfolding kind_named name_of choose
 returns-then-same_bytes c =
     let told = (named-all c.args.name.now (rw (sym c.same_bytes.ensures ∙ c.if-same_bytes.true))) in
-    record { value = told.0; says = told.1; }
+    record { value = told.0; says = told.1 }
 
 -- p1 and p2 are the places after the first and the second test.
 pub returns-then-same_bytes-2 : goal.returns-then-same_bytes-2
@@ -21,7 +21,7 @@ returns-then-same_bytes-2 c =
       sym c.same_bytes.ensures ∙ c.if-same_bytes.false,
       sym c.same_bytes-2.ensures ∙ c.if-same_bytes-2.true,
     ))) in
-    record { value = told.0; says = told.1; }
+    record { value = told.0; says = told.1 }
 
 pub returns-then-same_bytes-3 : goal.returns-then-same_bytes-3
 unfolding kind_named name_of choose
@@ -32,7 +32,7 @@ returns-then-same_bytes-3 c =
       sym c.same_bytes-2.ensures ∙ c.if-same_bytes-2.false,
       sym c.same_bytes-3.ensures ∙ c.if-same_bytes-3.true,
     ))) in
-    record { value = told.0; says = told.1; }
+    record { value = told.0; says = told.1 }
 
 pub returns : goal.returns
 unfolding kind_named name_of choose
@@ -43,4 +43,4 @@ returns c =
       sym c.same_bytes-2.ensures ∙ c.if-same_bytes-2.false,
       sym c.same_bytes-3.ensures ∙ c.if-same_bytes-3.false,
     ))) in
-    record { value = told.0; says = told.1; }
+    record { value = told.0; says = told.1 }

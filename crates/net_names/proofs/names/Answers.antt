@@ -24,21 +24,21 @@ unfolding names
 returns-in-0 c =
     let a = c.args in
     let told = arm 0 _ _ a.index a.out.now refl (omega arith) (c.write_name.ensures.value, c.write_name.ensures.out_after) c.from_written.ensures in
-    record { value = told.0; out_after = told.1; }
+    record { value = told.0; out_after = told.1 }
 
 pub returns-in-1 : goal.returns-in-1
 unfolding names
 returns-in-1 c =
     let a = c.args in
     let told = arm 1 _ _ a.index a.out.now refl (omega arith) (c.write_name-in-1.ensures.value, c.write_name-in-1.ensures.out_after) c.from_written-in-1.ensures in
-    record { value = told.0; out_after = told.1; }
+    record { value = told.0; out_after = told.1 }
 
 pub returns-in-2 : goal.returns-in-2
 unfolding names
 returns-in-2 c =
     let a = c.args in
     let told = arm 2 _ _ a.index a.out.now refl (omega arith) (c.write_name-in-2.ensures.value, c.write_name-in-2.ensures.out_after) c.from_written-in-2.ensures in
-    record { value = told.0; out_after = told.1; }
+    record { value = told.0; out_after = told.1 }
 
 pub returns-in_default : goal.returns-in_default
 unfolding names

@@ -1,6 +1,4 @@
-use Prim.Native.Nat.{◌-◌}
 use mathlib.Core.Path.{refl, sym, ◌∙◌}
-use lib.ListN.{length}
 use borrow.Author.Rules.{rules}
 use Rattle.net_names.proofs.Bytes.{other_length, same_turn, same-fails, same_end}
 use Rattle.net_names.proofs.same_bytes.Goals as goal

@@ -1,10 +1,9 @@
-use Prim.Native.Nat.{◌-◌}
 use native.Mathlib.Nat.{zero-add}
 use native.Mathlib.Numerals.{add-one}
 use native.Mathlib.Omega.{arith}
 use mathlib.Core.Path.{ap, ◌≡◌, refl, ◌∙◌}
 use lib.Seq.{take-length, paste-suc}
-use lib.ListN.{length-set, length, take}
+use lib.ListN.{length-set, length}
 use borrow.Author.Tests.{le-leb, lt-leb}
 use borrow.Author.Rules.{rules}
 use Rattle.lists.specs.Lists.{choose}
@@ -15,9 +14,9 @@ use Rattle.net_names.proofs.write_bytes.Goals as goal
 pub returns-then-out-name : goal.returns-then-out-name
 unfolding written_as left_on choose
 returns-then-out-name c = record {
-      value = rw (lt-leb _ _ c.if-out-name.true);
-      out_after = rw (lt-leb _ _ c.if-out-name.true);
-    }
+  value = rw (lt-leb _ _ c.if-out-name.true);
+  out_after = rw (lt-leb _ _ c.if-out-name.true);
+}
 
 pub loop-i-init : goal.loop-i-init
 loop-i-init c = (search rules, refl, refl)

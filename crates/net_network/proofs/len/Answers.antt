@@ -6,7 +6,6 @@ use Rattle.net_network.specs.Views.{zero_entry}
 use Rattle.net_network.proofs.Sums.{len-none, len_more}
 use borrow.Author.Rules.{rules}
 use native.Mathlib.Omega.{arith}
-use Prim.Native.Nat.{◌-◌}
 use Rattle.rules.specs.Network.{len}
 use Rattle.net_network.proofs.len.Goals as goal
 

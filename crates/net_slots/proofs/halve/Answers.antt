@@ -2,7 +2,6 @@ use borrow.Author.Rules.{rules}
 use native.Mathlib.Omega.{arith}
 use Prim.Native.Nat.{◌-◌, ◌+◌, ◌/◌}
 use mathlib.Core.Path.{◌≡◌, ◌∙◌, sym}
-use mathlib.Core.Bool.{false}
 use mathlib.Core.List.{[]}
 use Rattle.lists.proofs.Places.{lead-first}
 use borrow.Author.Count.{below_none}

@@ -1,9 +1,7 @@
 use borrow.Author.Rules.{rules}
 use native.Mathlib.Omega.{arith}
-use Prim.Native.Nat.{◌-◌}
 use mathlib.Core.Path.{◌∙◌}
 use mathlib.Core.List.{[]}
-use Rattle.lists.specs.Lists.{del}
 use Rattle.lists.proofs.Places.{del-turn}
 use Rattle.rows.proofs.Laws.{removed}
 use Rattle.rows.proofs.remove_at.Goals as goal

@@ -19,7 +19,7 @@ returns-then-not-durable_ok c =
     let told = (let a = c.args in
     let d = sym c.durable_ok.ensures ∙ c.if-not-durable_ok.true in
     refuses (actor_fine a.actors a.a) (rw d)) in
-    record { value = told.0; laid = told.1; }
+    record { value = told.0; laid = told.1 }
 
 pub returns-then-l-gt-LAST_STATE : goal.returns-then-l-gt-LAST_STATE
 unfolding actor_fine every
@@ -27,7 +27,7 @@ returns-then-l-gt-LAST_STATE c =
     let told = (let a = c.args in
     let d = sym c.durable_ok.ensures ∙ c.if-not-durable_ok.false in
     refuses (actor_fine a.actors a.a) (rw (d, lt-leb _ _ c.if-l-gt-LAST_STATE.true))) in
-    record { value = told.0; laid = told.1; }
+    record { value = told.0; laid = told.1 }
 
 pub returns-then-not-stored_ok : goal.returns-then-not-stored_ok
 unfolding actor_fine every
@@ -36,7 +36,7 @@ returns-then-not-stored_ok c =
     let d = sym c.durable_ok.ensures ∙ c.if-not-durable_ok.false in
     let s = sym c.stored_ok.ensures ∙ c.if-not-stored_ok.true in
     refuses (actor_fine a.actors a.a) (rw (d, le-leb _ _ c.if-l-gt-LAST_STATE.false, s))) in
-    record { value = told.0; laid = told.1; }
+    record { value = told.0; laid = told.1 }
 
 pub returns : goal.returns
 unfolding actor_fine every
@@ -55,4 +55,4 @@ returns c =
     let told = tells (actor_fine c.args.actors a) c.is_quiet.result
     (λ f. actor-laid a (record { pending = p; taken = t; stored-pending = q; stored-taken = u; word = w }) (fine-laid-out c.args.actors a f))
     (rw (d, h, e) (c.is_quiet.ensures ∙ sym (and-true _))) in
-    record { value = told.0; laid = told.1; }
+    record { value = told.0; laid = told.1 }

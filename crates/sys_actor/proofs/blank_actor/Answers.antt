@@ -18,7 +18,7 @@ pub returns-then-a : goal.returns-then-a
 unfolding blank_actor every
 returns-then-a c =
     let told = (let a = c.args.a in let x : a.crashed ≡ true = c.if-a.true in refuses (blank_actor a) (rw x)) in
-    record { value = told.0; zero = told.1; }
+    record { value = told.0; zero = told.1 }
 
 pub returns-then-a-ne0 : goal.returns-then-a-ne0
 unfolding blank_actor every
@@ -26,7 +26,7 @@ returns-then-a-ne0 c =
     let told = (let a = c.args.a in
     let x : a.crashed ≡ false = c.if-a.false in
     refuses (blank_actor a) (rw (x, ne_eqb a.timers.0 0 (λ e. omega arith)))) in
-    record { value = told.0; zero = told.1; }
+    record { value = told.0; zero = told.1 }
 
 pub returns-then-l-ne0 : goal.returns-then-l-ne0
 unfolding blank_actor every
@@ -34,7 +34,7 @@ returns-then-l-ne0 c =
     let told = (let a = c.args.a in
     let x : a.crashed ≡ false = c.if-a.false in
     refuses (blank_actor a) (rw (x, eq-eqb a.timers.0 0 (omega arith), ne_eqb a.link.state 0 (λ e. omega arith)))) in
-    record { value = told.0; zero = told.1; }
+    record { value = told.0; zero = told.1 }
 
 pub returns-then-s : goal.returns-then-s
 unfolding blank_actor every
@@ -43,7 +43,7 @@ returns-then-s c =
     let x : a.crashed ≡ false = c.if-a.false in
     let y : a.stored.some ≡ true = c.if-s.true in
     refuses (blank_actor a) (rw (x, eq-eqb a.timers.0 0 (omega arith), eq-eqb a.link.state 0 (omega arith), y))) in
-    record { value = told.0; zero = told.1; }
+    record { value = told.0; zero = told.1 }
 
 pub returns-then-not-zero_durable : goal.returns-then-not-zero_durable
 unfolding blank_actor every
@@ -53,7 +53,7 @@ returns-then-not-zero_durable c =
     let y : a.stored.some ≡ false = c.if-s.false in
     let z = sym c.zero_durable.ensures ∙ c.if-not-zero_durable.true in
     refuses (blank_actor a) (rw (x, eq-eqb a.timers.0 0 (omega arith), eq-eqb a.link.state 0 (omega arith), y, z))) in
-    record { value = told.0; zero = told.1; }
+    record { value = told.0; zero = told.1 }
 
 pub returns : goal.returns
 unfolding blank_actor every
@@ -72,4 +72,4 @@ returns c =
     let m : a.link.state ≡ 0 = c.if-l-ne0.false in
     let told = tells (blank_actor a) c.zero_durable-2.result (blank-zero a (record { pending = p; taken = t; stored-pending = q; stored-taken = u; word = w }))
     (rw (x, eq-eqb a.timers.0 0 n, eq-eqb a.link.state 0 m, y, z) (c.zero_durable-2.ensures ∙ sym (and-true _))) in
-    record { value = told.0; zero = told.1; }
+    record { value = told.0; zero = told.1 }

@@ -3,7 +3,6 @@ use borrow.Author.Tests.{eq-eqb, ne_eqb}
 use Rattle.link_tables.specs.Rows.{rules_in}
 use Rattle.sys_moves.specs.Views.{rows_of}
 use Rattle.sys_deliver.proofs.Chosen.{no_source, deaf, delivered, acks}
-use borrow.Author.Rules.{rules}
 use Rattle.sys_deliver.proofs.deliver.Goals as goal
 
 pub returns-then-count-source : goal.returns-then-count-source

@@ -2,7 +2,6 @@ use native.Mathlib.Omega.{arith}
 use Rattle.sys_moves.specs.Views.{rows_of}
 use Rattle.sys_rows.proofs.Laws.{state-small}
 use Rattle.sys_deliver.proofs.Chosen.{heard-passed, heard-taken}
-use borrow.Author.Rules.{rules}
 use Rattle.sys_deliver.proofs.hear.Goals as goal
 
 pub rule_for-at-requires : goal.rule_for-at-requires

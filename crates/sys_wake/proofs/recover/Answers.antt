@@ -2,7 +2,6 @@ use mathlib.Core.Path.{sym, ◌∙◌}
 use Rattle.link_tables.specs.Rows.{rules_in}
 use Rattle.sys_moves.specs.Views.{Rows, rows_of}
 use Rattle.sys_wake.proofs.Wakes.{bare-fine, is_live, is-crashed, stepped-live, stepped-done, stepped-back}
-use borrow.Author.Rules.{rules}
 use Rattle.sys_wake.proofs.recover.Goals as goal
 
 pub returns-then-mark-eq0 : goal.returns-then-mark-eq0

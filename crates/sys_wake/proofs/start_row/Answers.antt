@@ -1,5 +1,4 @@
 use Rattle.sys_wake.proofs.Loads.{row-found, row-none}
-use borrow.Author.Rules.{rules}
 use Rattle.sys_wake.proofs.start_row.Goals as goal
 
 pub returns-then-at-rules : goal.returns-then-at-rules

@@ -2,7 +2,6 @@ use mathlib.Core.Path.{sym, ◌∙◌}
 use Rattle.link_tables.specs.Rows.{rules_in}
 use Rattle.sys_moves.specs.Views.{Rows, rows_of}
 use Rattle.sys_wake.proofs.Wakes.{from-fine, woken-done, woken-back}
-use borrow.Author.Rules.{rules}
 use Rattle.sys_wake.proofs.wake.Goals as goal
 
 pub start-s-requires : goal.start-s-requires
