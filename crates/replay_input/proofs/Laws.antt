@@ -1,8 +1,9 @@
 -- What a read came to, and what follows it.
 -- Assumes nothing.
-use Rattle.std.proofs.Common.{ℕ, zero, suc, ◌+◌, ◌≤◌, ◌<◌, ◌≡◌, refl, sym, ◌∙◌, subst, Bool, true, false, List, length, arith, Result, Ok, Err}
+use Rattle.std.proofs.Common.{ℕ, zero, suc, ◌+◌, ◌≤◌, ◌<◌, ◌≡◌, refl, sym, ◌∙◌, subst, Bool, true, false, List, length, take, arith, Result, Ok, Err}
 use Rattle.std.proofs.Math.Dec.{eqb, ltb}
 use Rattle.std.proofs.lemmas.Bool.{eqb-false}
+use Rattle.std.proofs.lemmas.List.{length-take-le}
 use Rattle.std.specs.Io.{ReadsAtMost}
 use Rattle.std.specs.declared.io.Error.{Error}
 use Rattle.lists.specs.Lists.{choose}
@@ -53,6 +54,10 @@ last_fits room size l = by_case l.gave l.at l.within l.over
         go : (b : Bool) → ltb (at + n) room ≡ b → size ≤ room
         go true t = let f : From (at + n) ≡ Over (Whole size) = (sym (rw t)) ∙ q in let z : ◌≡◌ {A = ℕ} 0 1 = cc in absurd (omega arith)
         go false t = let f : Over (Whole (at + n)) ≡ Over (Whole size) = (sym (rw t)) ∙ q in let i : at + n ≡ size = cc in omega arith
+
+-- and is as long as the answer says
+pub last_taken : (xs : List ℕ) (size : ℕ) → Last (Whole size) (length xs) → size ≡ length (take size xs)
+last_taken xs size l = sym (length-take-le size xs (last_fits (length xs) size l))
 
 -- ---- the arguments
 pub is_input : (n : ℕ) → n < 2 → source.Input ≡ source_of n

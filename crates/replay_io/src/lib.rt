@@ -11,10 +11,10 @@ ghost use Rattle.replay_io.specs.Views.{Sized};
 use replay_input::{Input, Source, read_all, source_of};
 use replay_script::{MOST_FRAME, MOST_LINE, replay};
 use std::env::{Env, FillError};
-use std::fs::File;
+use std::fs::OpenOptions;
 use std::io;
-use std::io::{ErrorKind, Read};
-use std::rt::Runtime;
+use std::io::{ErrorKind, Read, Write};
+use std::rt::Files;
 use types::MOST_BYTES;
 
 // One byte more is read than a script may have, since a longer script is refused by its length alone.
@@ -23,9 +23,10 @@ const SCRIPT: usize = MOST_BYTES + 1;
 // As much as `replay_script::room_for` has for the longest script, so that every output fits and nothing is measured first.
 const OUTPUT: usize = MOST_FRAME + MOST_LINE * MOST_BYTES;
 
-// The longest name of a file, and the system's number for one that is longer.
+// A longer name is none of a file.
 const PATH: usize = 4096;
 
+// The system's number for a name that is too long, ENAMETOOLONG.
 const NAME_TOO_LONG: i32 = 36;
 
 fn script_room() -> [u8; SCRIPT]
@@ -49,27 +50,24 @@ fn put_output(script: &[u8], room: &mut [u8]) -> usize
     replay(script, room)
 }
 
-// std puts the error's number behind the system's words.
+// The system's words for an error, in what std writes for it: they stand before its number, and else before the first 0.
 fn words_of(text: &str) -> &str {
-    match text.split_once(" (os error ") {
+    match text.split_once(" (os error ").or(text.split_once('\0')) {
         Some((words, _)) => words,
         None => text,
     }
 }
 
 // Says on standard error what failed, as the caller names it, and why.
-fn fail<R: Runtime>(rt: &R, what: &str, error: io::Error) {
-    let _ = match error.to_string(rt.alloc()) {
-        Ok(text) => {
-            let words = words_of(text.as_str());
-            eprintln!(rt; "{what}: {words}")
-        }
-        Err(_) => eprintln!(rt; "{what}: {error}"),
-    };
+fn fail(rt: &HostRuntime, what: &str, error: io::Error) {
+    let mut text = [0; 256];
+    let _ = write!(&mut text[..], "{error}");
+    let words = words_of(str::from_utf8(&text).unwrap_or(""));
+    let _ = eprintln!(rt; "{what}: {words}");
 }
 
 // Writes the output of the script. It asks for the script so that nothing else can be handed to it.
-fn write_output<R: Runtime>(rt: &R, script: &[u8], out: &[u8])
+fn write_output(rt: &HostRuntime, script: &[u8], out: &[u8])
     requires { out.now ≡ replay base versions script.now }
 {
     if let Err(e) = rt.write_all(out) {
@@ -77,14 +75,14 @@ fn write_output<R: Runtime>(rt: &R, script: &[u8], out: &[u8])
     }
 }
 
-fn write_replay<R: Runtime>(rt: &R, script: &[u8]) {
+fn write_replay(rt: &HostRuntime, script: &[u8]) {
     let mut room = output_room();
     let size = put_output(script, &mut room);
     write_output(rt, script, &room[..size]);
 }
 
 // What cannot be read is said on standard error under its name, and nothing is written to standard output.
-fn replay_from<R: Runtime, F: Read>(rt: &R, reader: &mut F, name: &str) {
+fn replay_from<F: Read>(rt: &HostRuntime, reader: &mut F, name: &str) {
     let mut room = script_room();
     let input = read_all(reader, &mut room);
     match input {
@@ -93,8 +91,8 @@ fn replay_from<R: Runtime, F: Read>(rt: &R, reader: &mut F, name: &str) {
     }
 }
 
-// How many arguments there are. No buffer is needed to see that there is one.
-fn arg_count<R: Env>(rt: &R) -> usize {
+// How many arguments there are. That there is one is seen without room for it.
+fn arg_count(rt: &HostRuntime) -> usize {
     for i in 0..usize::MAX {
         if let Err(FillError::NotPresent) = rt.arg(i, &mut []) {
             return i;
@@ -104,10 +102,10 @@ fn arg_count<R: Env>(rt: &R) -> usize {
 }
 
 // Replays the script that the program's arguments ask for.
-pub fn replay_asked<R: Runtime>(rt: &R) {
+pub fn replay_asked(rt: &HostRuntime) {
     let from = source_of(arg_count(rt));
     match from {
-        Source::Input => replay_from(rt, &mut rt.reader(), "standard input"),
+        Source::Input => replay_from(rt, &mut rt.stdin(), "standard input"),
         Source::Argument => replay_argument(rt),
         Source::Wrong => {
             let _ = eprintln!(rt; "usage: replay [FILE]");
@@ -115,18 +113,27 @@ pub fn replay_asked<R: Runtime>(rt: &R) {
     }
 }
 
-// Replays the script in the file that the first argument names.
-fn replay_argument<R: Runtime>(rt: &R) {
+// Replays the script in the file that the first argument names. The file is opened by the handle's own method, and not by
+// std's `File::open`, since that stands on the C functions under all that can be done with files.
+fn replay_argument(rt: &HostRuntime) {
     let mut path = [0; PATH];
     let Ok(size) = rt.arg(1, &mut path) else {
-        fail(rt, "the script's name", io::Error::from_raw_os_error(NAME_TOO_LONG));
+        fail(
+            rt,
+            "the script's name",
+            io::Error::from_raw_os_error(NAME_TOO_LONG),
+        );
         return;
     };
     let Ok(name) = str::from_utf8(&path[..size]) else {
-        fail(rt, "the script's name", io::Error::new(ErrorKind::InvalidData, "not UTF-8"));
+        fail(
+            rt,
+            "the script's name",
+            io::Error::new(ErrorKind::InvalidData, "not UTF-8"),
+        );
         return;
     };
-    match File::open(rt, name) {
+    match rt.open_file(OpenOptions::new().read(true), name) {
         Ok(mut file) => replay_from(rt, &mut file, name),
         Err(e) => fail(rt, name, e),
     }

@@ -81,7 +81,7 @@ fn run(rt: &impl Print, text: &[u8]) -> io::Result<()> {
 
 fn main(rt: HostRuntime) -> io::Result<()> {
     let mut text = [0u8; 8192];
-    match read_all(&mut rt.reader(), &mut text) {
+    match read_all(&mut rt.stdin(), &mut text) {
         Input::Broken(e) => Err(e),
         Input::Whole(n) => run(&rt, &text[..n]),
     }
