@@ -31,6 +31,7 @@ enum Next {
 }
 
 // What the answer of a read means.
+#[tactic(auto, unfolding(crate::specs::Views::gave_of, lists::specs::Lists::choose))]
 fn judged(got: io::Result<usize>) -> Gave
     ensures { result ≡ gave_of got }
 {
@@ -41,6 +42,7 @@ fn judged(got: io::Result<usize>) -> Gave
 }
 
 // One read, from the place `at` on. What stands before that place stays.
+#[tactic(auto, using(crate::proofs::Laws::read_within))]
 fn read_on<R: Read>(reader: &mut R, script: &mut [u8], at: usize) -> Gave
     requires { at ≤ length script.old }
     ensures kept { take at script.new ≡ take at script.old }
@@ -51,6 +53,7 @@ fn read_on<R: Read>(reader: &mut R, script: &mut [u8], at: usize) -> Gave
 }
 
 // After a read at the place `at`, in a buffer of `room` bytes: the input ends, a read failed, the buffer is full, or there is more to read.
+#[tactic(auto, unfolding(crate::specs::Views::next_of, lists::specs::Lists::choose))]
 fn next_after(gave: Gave, at: usize, room: usize) -> Next
     requires { Within gave at room }
     ensures { result ≡ next_of gave at room }
@@ -69,6 +72,7 @@ fn next_after(gave: Gave, at: usize, room: usize) -> Next
 }
 
 // Reads until nothing follows. What it answers is what follows from the last read.
+#[tactic(auto, using(crate::proofs::Laws::goes_past, crate::proofs::Laws::stays_within))]
 pub fn read_all<R: Read>(reader: &mut R, script: &mut [u8]) -> Input
     ensures { Last result (length script.new) }
 {
@@ -96,6 +100,7 @@ pub enum Source {
 }
 
 // The program's own name is counted too.
+#[tactic(auto, using(crate::proofs::Laws::is_input, crate::proofs::Laws::is_wrong), unfolding(crate::specs::Views::source_of))]
 pub fn source_of(count: usize) -> Source
     ensures { result ≡ source_of count }
 {
