@@ -1,6 +1,7 @@
 -- What a read came to, what follows it, and where the script is.
 -- Assumes nothing.
-use Rattle.std.specs.Prelude.{ℕ, zero, suc, ◌+◌, ◌≤◌, ◌<◌, ◌≡◌, ltb, eqb, ℤ, pos, negsuc}
+use Rattle.std.specs.Prelude.{ℕ, zero, suc, ◌+◌, ◌≤◌, ◌<◌, ◌≡◌, ltb, eqb, Result, Ok, Err}
+use Rattle.std.specs.declared.io.Error.{Error}
 use Rattle.lists.specs.Lists.{choose}
 use Rattle.replay_input.specs.declared.Gave.{Gave}
 use Rattle.replay_input.specs.declared.Gave.TheVariants.{Failed, Ended, More}
@@ -12,14 +13,14 @@ use Rattle.replay_input.specs.declared.Source.{Source}
 use Rattle.replay_input.specs.declared.Source.TheVariants as source
 
 -- ---- one read
--- A read that fails answers a negative number; one that gives nothing is at the end of the input.
-unfoldable pub gave_of : ℤ → Gave
-gave_of (negsuc k) = Failed
-gave_of (pos k) = choose (eqb k 0) Ended (More k)
+-- A read that fails answers an error; one that gives nothing is at the end of the input.
+unfoldable pub gave_of : Result ℕ Error → Gave
+gave_of (Err e) = Failed e
+gave_of (Ok k) = choose (eqb k 0) Ended (More k)
 
 -- What was read from a place on lies in a buffer of so many bytes, and is not nothing. The place does too.
 abbrev pub Within : Gave → ℕ → ℕ → Type 0
-Within Failed at room = at ≤ room
+Within (Failed e) at room = at ≤ room
 Within Ended at room = at ≤ room
 Within (More n) at room = (0 < n) × (at + n ≤ room)
 
@@ -27,7 +28,7 @@ Within (More n) at room = (0 < n) × (at + n ≤ room)
 -- What follows a read at a place: after one that failed nothing; at the end of the input, what stands before the place is all of it; else the
 -- next read follows where this one ended, unless the buffer is full.
 unfoldable pub next_of : Gave → ℕ → ℕ → Next
-next_of Failed at room = Over Broken
+next_of (Failed e) at room = Over (Broken e)
 next_of Ended at room = Over (Whole at)
 next_of (More n) at room = choose (ltb (at + n) room) (From (at + n)) (Over (Whole (at + n)))
 

@@ -9,8 +9,8 @@ use lib.Dec.{leb}
 use lib.ListN.{length, take, drop, length-drop, length-append}
 use lib.Seq.{take_at}
 use borrow.Author.Tests.{le-leb}
-use Rattle.io.specs.Counts.{IsPrefixLen}
-use Rattle.io.proofs.Counting.{prefix_len_of_le}
+use Rattle.std.specs.Counts.{IsPrefixLen}
+use Rattle.std.proofs.lemmas.List.{length-take-le}
 use Rattle.lists.specs.Lists.{choose}
 use Rattle.layout.specs.Form.{Form, Got, got, bad, record_of}
 use Rattle.layout.specs.Read.{Reading, read, bad_at, Reader, placed, one, onward, joining, repeat}
@@ -157,11 +157,11 @@ output-fits s k = go (layout_of (read_script versions s)) refl
     go (layout.Bad p) h = bad-fits s p k h
 
 -- ---- the output, at the start of a buffer in which it fits
-pub put_all_lem
+pub put_all
     : (l out left : List ℕ) (r : ℕ) → length l ≤ length out → r ≡ length l → left ≡ choose (leb r (length out)) (l ++ drop r out) out
     → IsPrefixLen r left × (take r left ≡ l)
 unfolding choose
-put_all_lem l out left r h e b =
+put_all l out left r h e b =
     let f : left ≡ l ++ drop r out = b ∙ rw (le-leb r (length out) (omega arith)) in
     let n = ap length f ∙ length-append l (drop r out) in
-    (prefix_len_of_le _ _ (omega arith), ap (take r) f ∙ take_at l (drop r out) r (sym e))
+    (let m : r ≤ length left = omega arith in (m, sym (length-take-le r left m)), ap (take r) f ∙ take_at l (drop r out) r (sym e))

@@ -2,15 +2,19 @@
 #![tactic(auto)]
 
 ghost use Rattle.std.specs.Prelude.{◌≡◌, length, take};
-ghost use Rattle.io.specs.Counts.{IsPrefixLen};
+ghost use Rattle.std.specs.Counts.{IsPrefixLen};
 ghost use Rattle.rules.specs.Outcome.{base};
 ghost use Rattle.rules.specs.Script.{versions};
 ghost use Rattle.rules.specs.Program.{replay};
 ghost use Rattle.replay_io.specs.Views.{Sized};
 
-use libc::{STDERR_FILENO, STDIN_FILENO, STDOUT_FILENO};
 use replay_input::{Input, Source, read_all, source_of};
 use replay_script::{MOST_FRAME, MOST_LINE, replay};
+use std::env::{Env, FillError};
+use std::fs::OpenOptions;
+use std::io;
+use std::io::{ErrorKind, Read, Write};
+use std::rt::Files;
 use types::MOST_BYTES;
 
 // One byte more is read than a script may have, since a longer script is refused by its length alone.
@@ -18,6 +22,12 @@ const SCRIPT: usize = MOST_BYTES + 1;
 
 // As much as `replay_script::room_for` has for the longest script, so that every output fits and nothing is measured first.
 const OUTPUT: usize = MOST_FRAME + MOST_LINE * MOST_BYTES;
+
+// A longer name is none of a file.
+const PATH: usize = 4096;
+
+// The system's number for a name that is too long, ENAMETOOLONG.
+const NAME_TOO_LONG: i32 = 36;
 
 fn script_room() -> [u8; SCRIPT]
     ensures { 65537 ≡ length result }
@@ -40,56 +50,91 @@ fn put_output(script: &[u8], room: &mut [u8]) -> usize
     replay(script, room)
 }
 
-// Writes the output of the script. It asks for the script so that nothing else can be handed to it.
-fn write_output(script: &[u8], out: &[u8])
-    requires { out.now ≡ replay base versions script.now }
-{
-    if !io::write_all(STDOUT_FILENO, out) {
-        os::fail(b"standard output");
+// The system's words for an error, in what std writes for it: they stand before its number, and else before the first 0.
+fn words_of(text: &str) -> &str {
+    match text.split_once(" (os error ").or(text.split_once('\0')) {
+        Some((words, _)) => words,
+        None => text,
     }
 }
 
-fn write_replay(script: &[u8]) {
+// Says on standard error what failed, as the caller names it, and why.
+fn fail(rt: &HostRuntime, what: &str, error: io::Error) {
+    let mut text = [0; 256];
+    let _ = write!(&mut text[..], "{error}");
+    let words = words_of(str::from_utf8(&text).unwrap_or(""));
+    let _ = eprintln!(rt; "{what}: {words}");
+}
+
+// Writes the output of the script. It asks for the script so that nothing else can be handed to it.
+fn write_output(rt: &HostRuntime, script: &[u8], out: &[u8])
+    requires { out.now ≡ replay base versions script.now }
+{
+    if let Err(e) = rt.write_all(out) {
+        fail(rt, "standard output", e);
+    }
+}
+
+fn write_replay(rt: &HostRuntime, script: &[u8]) {
     let mut room = output_room();
     let size = put_output(script, &mut room);
-    write_output(script, &room[..size]);
+    write_output(rt, script, &room[..size]);
 }
 
 // What cannot be read is said on standard error under its name, and nothing is written to standard output.
-fn replay_from(fd: i32, name: &[u8]) {
+fn replay_from<F: Read>(rt: &HostRuntime, reader: &mut F, name: &str) {
     let mut room = script_room();
-    let input = read_all(fd, &mut room);
+    let input = read_all(reader, &mut room);
     match input {
-        Input::Broken => os::fail(name),
-        Input::Whole(size) => write_replay(&room[..size]),
+        Input::Broken(e) => fail(rt, name, e),
+        Input::Whole(size) => write_replay(rt, &room[..size]),
     }
 }
 
+// How many arguments there are. That there is one is seen without room for it.
+fn arg_count(rt: &HostRuntime) -> usize {
+    for i in 0..usize::MAX {
+        if let Err(FillError::NotPresent) = rt.arg(i, &mut []) {
+            return i;
+        }
+    }
+    usize::MAX
+}
+
 // Replays the script that the program's arguments ask for.
-pub fn replay_asked() {
-    let from = source_of(os::arg_count());
+pub fn replay_asked(rt: &HostRuntime) {
+    let from = source_of(arg_count(rt));
     match from {
-        Source::Input => replay_from(STDIN_FILENO, b"standard input"),
-        Source::Argument => replay_argument(),
+        Source::Input => replay_from(rt, &mut rt.stdin(), "standard input"),
+        Source::Argument => replay_argument(rt),
         Source::Wrong => {
-            io::write_all(STDERR_FILENO, b"usage: replay [FILE]\n");
+            let _ = eprintln!(rt; "usage: replay [FILE]");
         }
     }
 }
 
-// Replays the script in the file that the first argument names.
-fn replay_argument() {
-    let mut path = io::buffer();
-    let length = os::arg(1, &mut path);
-    if os::errno() != 0 {
-        os::fail(b"the script's name");
+// Replays the script in the file that the first argument names. The file is opened by the handle's own method, and not by
+// std's `File::open`, since that stands on the C functions under all that can be done with files.
+fn replay_argument(rt: &HostRuntime) {
+    let mut path = [0; PATH];
+    let Ok(size) = rt.arg(1, &mut path) else {
+        fail(
+            rt,
+            "the script's name",
+            io::Error::from_raw_os_error(NAME_TOO_LONG),
+        );
         return;
-    }
-    let fd = os::open_read(&path[..length]);
-    if fd < 0 {
-        os::fail(&path[..length]);
+    };
+    let Ok(name) = str::from_utf8(&path[..size]) else {
+        fail(
+            rt,
+            "the script's name",
+            io::Error::new(ErrorKind::InvalidData, "not UTF-8"),
+        );
         return;
+    };
+    match rt.open_file(OpenOptions::new().read(true), name) {
+        Ok(mut file) => replay_from(rt, &mut file, name),
+        Err(e) => fail(rt, name, e),
     }
-    replay_from(fd, &path[..length]);
-    libc::close(fd);
 }

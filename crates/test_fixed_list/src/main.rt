@@ -4,7 +4,10 @@
 
 ghost use Rattle.std.specs.Prelude.{◌≡◌, length};
 
-use libc::STDOUT_FILENO;
+use replay_input::{Input, read_all};
+use std::fs::File;
+use std::io::Read;
+use std::{env, io};
 use test_list_check::{Tally, check_list};
 
 // A list that is longer is cut, and so differs.
@@ -14,32 +17,28 @@ fn room() -> [u8; 327680]
     [0; 327680]
 }
 
-fn tell(t: Tally) {
-    io::print_decimal(STDOUT_FILENO, t.scripts as u64);
-    io::write_all(STDOUT_FILENO, b" scripts, ");
-    io::print_decimal(STDOUT_FILENO, t.differ as u64);
-    io::write_all(STDOUT_FILENO, b" differ");
-    if t.differ > 0 {
-        io::write_all(STDOUT_FILENO, b", first number ");
-        io::print_decimal(STDOUT_FILENO, t.first as u64);
+fn tell(rt: &impl Print, t: Tally) -> io::Result<()> {
+    let scripts = t.scripts;
+    let differ = t.differ;
+    print!(rt; "{scripts} scripts, {differ} differ")?;
+    if differ > 0 {
+        let first = t.first;
+        print!(rt; ", first number {first}")?;
     }
-    io::write_all(STDOUT_FILENO, b"\n");
+    println!(rt)
 }
 
-fn replay_file(fd: i32) {
+fn replay_file<R: Read>(rt: &impl Print, reader: &mut R) -> io::Result<()> {
     let mut list = room();
-    let n = io::read_full(fd, &mut list);
-    tell(check_list(&list[..n]));
+    match read_all(reader, &mut list) {
+        Input::Broken(e) => Err(e),
+        Input::Whole(n) => tell(rt, check_list(&list[..n])),
+    }
 }
 
-fn main() {
-    let mut path = io::buffer();
-    let length = os::arg(1, &mut path);
-    let fd = os::open_read(&path[..length]);
-    if fd < 0 {
-        os::fail(&path[..length]);
-        return;
-    }
-    replay_file(fd);
-    libc::close(fd);
+fn main(rt: HostRuntime) -> io::Result<()> {
+    let Some(name) = env::args(&rt)?.nth(1) else {
+        return Err(io::Error::from(io::ErrorKind::NotFound));
+    };
+    replay_file(&rt, &mut File::open(&rt, name.as_str())?)
 }

@@ -6,7 +6,8 @@
 ghost use Rattle.std.specs.Prelude.{◌≤◌, length};
 
 use answers::number_of;
-use libc::{STDIN_FILENO, STDOUT_FILENO};
+use replay_input::{Input, read_all};
+use std::io;
 use sys_step::step;
 use sys_system::System;
 use test_dump::{SIZE, dump};
@@ -40,14 +41,13 @@ fn tried(s: System) -> Trial {
     }
 }
 
-fn tell(name: &[u8], t: Trial) {
-    io::write_all(STDOUT_FILENO, name);
-    io::write_all(STDOUT_FILENO, b": ");
-    io::print_decimal(STDOUT_FILENO, t.answer);
+fn tell(rt: &impl Print, name: &[u8], t: Trial) -> io::Result<()> {
+    rt.write_all(name)?;
+    let answer = t.answer;
     if t.same {
-        io::write_all(STDOUT_FILENO, b" same\n");
+        println!(rt; ": {answer} same")
     } else {
-        io::write_all(STDOUT_FILENO, b" changed\n");
+        println!(rt; ": {answer} changed")
     }
 }
 
@@ -67,19 +67,22 @@ fn find(text: &[u8], from: usize, b: u8) -> usize
     i
 }
 
-fn run(text: &[u8]) {
+fn run(rt: &impl Print, text: &[u8]) -> io::Result<()> {
     let mut at = 0;
     while at < text.len() {
         let colon = find(text, at, b':');
         let end = find(text, colon, b'\n');
         let t = tried(made(&text[colon..end]));
-        tell(&text[at..colon], t);
+        tell(rt, &text[at..colon], t)?;
         at = end + 1;
     }
+    Ok(())
 }
 
-fn main() {
+fn main(rt: HostRuntime) -> io::Result<()> {
     let mut text = [0u8; 8192];
-    let n = io::read_full(STDIN_FILENO, &mut text);
-    run(&text[..n]);
+    match read_all(&mut rt.stdin(), &mut text) {
+        Input::Broken(e) => Err(e),
+        Input::Whole(n) => run(&rt, &text[..n]),
+    }
 }

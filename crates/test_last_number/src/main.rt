@@ -3,7 +3,7 @@
 #![tactic(auto)]
 
 use answers::number_of;
-use libc::STDOUT_FILENO;
+use std::io;
 use sys_answered::Answered;
 use sys_step::step;
 use sys_system::System;
@@ -27,13 +27,11 @@ fn next_of(s: System) -> u64 {
     a.link.durable.next.0
 }
 
-fn tell(what: &[u8], n: u64) {
-    io::write_all(STDOUT_FILENO, what);
-    io::print_decimal(STDOUT_FILENO, n);
-    io::write_all(STDOUT_FILENO, b"\n");
+fn tell(rt: &impl Print, what: &str, n: u64) -> io::Result<()> {
+    println!(rt; "{what}{n}")
 }
 
-fn main() {
+fn main(rt: HostRuntime) -> io::Result<()> {
     let first = delivered(
         made(b"c1 d1 e1 f1 g2 h1 i2 l1 m2 p9 q1 s1 t2 v1 x9 I202"),
         1,
@@ -42,7 +40,7 @@ fn main() {
     let after = first.system;
     let second = delivered(after, 2);
     let refused = second.answer;
-    tell(b"number 2^64 - 2: ", number_of(done));
-    tell(b"next number: ", next_of(after));
-    tell(b"the next: ", number_of(refused));
+    tell(&rt, "number 2^64 - 2: ", number_of(done))?;
+    tell(&rt, "next number: ", next_of(after))?;
+    tell(&rt, "the next: ", number_of(refused))
 }

@@ -1,0 +1,9 @@
+-- `run` ends and cuts within the text: a line's colon stands at or behind its beginning, its end at or behind its colon.
+use Rattle.std.proofs.Common.{◌+◌, ◌≤◌, ◌-◌, length}
+use Rattle.test_ill_formed.proofs.run.Given as goal
+
+abbrev pub invariant-loop-at : goal.invariant-loop-at
+invariant-loop-at g l = l.at ≤ length l.text + 1
+
+abbrev pub decreases-loop-at : goal.decreases-loop-at
+decreases-loop-at g l = length l.text + 1 - l.at
