@@ -6,7 +6,7 @@ usage: python3 tools/to_answers.py NAMES [FUNCTION..]      in the crate's folder
 NAMES is the folder that `rt check --generated NAMES --old-names` wrote for this crate. Each Proof.antt in proofs/F, or only those
 of the functions named, becomes Invariants.antt, with the invariants and measures, and Answers.antt, with the goals that were
 answered by more than a search; goals and steps get their names of today. What is in no table is left as it was and printed.
-The older file goes to /tmp/aside/CRATE/F.
+The older file goes to NAMES/aside/F.
 """
 
 import json
@@ -16,6 +16,7 @@ import shutil
 import sys
 
 FUNCTIONS = {}
+ASIDE = "aside"
 CHAR = r"[\w'₀-₉-]"
 NAME = CHAR + "+"
 
@@ -352,7 +353,7 @@ def convert(folder, crate, path, names):
             left.append("helper " + sig[:80])
             block = tokens_field(block, "tie", "goal")
         answers.append(block)
-    aside = os.path.join("/tmp/aside", crate, os.path.relpath(folder, "proofs"))
+    aside = os.path.join(ASIDE, os.path.relpath(folder, "proofs"))
     os.makedirs(aside, exist_ok=True)
     shutil.move(os.path.join(folder, "Proof.antt"), os.path.join(aside, "Proof.antt"))
     mod = os.path.relpath(folder, "proofs").replace("/", ".")
@@ -390,7 +391,8 @@ def convert(folder, crate, path, names):
 
 
 def main(argv):
-    global FUNCTIONS
+    global FUNCTIONS, ASIDE
+    ASIDE = os.path.join(argv[0], "aside")
     crate = os.path.basename(os.getcwd())
     FUNCTIONS = contracts(os.path.join(os.getcwd(), "..", ".."))
     with open(os.path.join(argv[0], "names.json"), encoding="utf-8") as f:

@@ -17,7 +17,7 @@ use Rattle.answers.specs.Answers.{answer_number}
 use Rattle.layout.specs.Read.{read, one}
 use Rattle.rules.specs.Outcome.{base}
 use Rattle.rules.specs.System.{Sys}
-use Rattle.rules.specs.Run.{answer, counted}
+use Rattle.rules.specs.Run.{counted}
 use Rattle.rules.specs.WellFormed.{well_formed}
 use Rattle.rules.specs.Script.{action_form, actions_from}
 use Rattle.rules.specs.Program.{answer_line, size, line, done_word}

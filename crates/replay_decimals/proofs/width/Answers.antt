@@ -1,6 +1,4 @@
 use native.Mathlib.Omega.{arith}
-use lib.ListN.{length}
-use Rattle.rules.specs.Program.{decimal}
 use Rattle.replay_decimals.proofs.Laws.{length-small, length_more, length-decimal}
 use Rattle.replay_decimals.proofs.width.Goals as goal
 

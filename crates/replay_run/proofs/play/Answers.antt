@@ -1,7 +1,5 @@
 use native.Mathlib.Omega.{arith}
-use Prim.Native.Nat.{◌-◌}
 use mathlib.Core.Path.{sym, ◌∙◌}
-use lib.ListN.{length}
 use Rattle.replay_lines.proofs.Laws.{length-left}
 use Rattle.replay_run.proofs.Laws.{starts, going, move-fits, move-on, over, end_fits, turn_end, kept-length, no-bad}
 use Rattle.replay_run.proofs.play.Goals as goal

@@ -1,5 +1,4 @@
 -- Each turn is one action: the place goes up by what was read, the rows take the rules' step, and its line is written.
-use borrow.Author.Rules.{rules}
 use Prim.Native.Nat.{◌-◌}
 use lib.ListN.{length}
 use Rattle.sys_all_rows.specs.Views.{hall_of, books_of, sys_of}

@@ -13,9 +13,9 @@ use Rattle.script_bits.proofs.cut.Goals as goal
 pub returns-then-width-eq0 : goal.returns-then-width-eq0
 unfolding field_at
 returns-then-width-eq0 c = record {
-      cuts = λ xs h. rw c.if-width-eq0.true;
-      fits = rw c.if-width-eq0.true (lit< tt);
-    }
+  cuts = λ xs h. rw c.if-width-eq0.true;
+  fits = rw c.if-width-eq0.true (lit< tt);
+}
 
 pub returns-then-at-lt64 : goal.returns-then-at-lt64
 returns-then-at-lt64 c =

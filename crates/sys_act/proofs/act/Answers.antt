@@ -6,7 +6,6 @@ use Rattle.link_tables.specs.Rows.{rules_in}
 use Rattle.sys_moves.specs.Views.{rows_of}
 use Rattle.sys_act.specs.Seats.{target, seat_of}
 use Rattle.sys_act.proofs.Acts.{as-told, stepped-at, no-timeout, no-crash, no-recover, no-deliver, crashes, drops-on}
-use borrow.Author.Rules.{rules}
 use Rattle.sys_act.proofs.act.Goals as goal
 
 pub returns-then-not-here : goal.returns-then-not-here

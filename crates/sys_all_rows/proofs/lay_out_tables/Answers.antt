@@ -1,4 +1,4 @@
-use Prim.Native.Nat.{ℕ, ◌<◌, ◌-◌}
+use Prim.Native.Nat.{ℕ, ◌<◌}
 use mathlib.Core.Path.{◌≡◌, subst}
 use lib.ListN.{length}
 use Rattle.lists.proofs.Places.{length-mapped}

@@ -1,6 +1,5 @@
 -- Those before a place are laid out, and each turn lays out the one at it.
 use Prim.Native.Nat.{◌≤◌, ◌-◌}
-use borrow.Author.Rules.{rules}
 use Rattle.sys_all_rows.specs.Views.{books_of, TablesLaid}
 use Rattle.sys_all_rows.proofs.lay_out_tables.Given as goal
 

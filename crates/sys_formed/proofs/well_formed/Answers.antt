@@ -33,7 +33,7 @@ unfolding every
 returns-then-count-lt1 c =
     let told = (let typed : SystemTyped c.args.s = system-says c.args.s _ c.well_formed.0 in
     refuses _ (fine-tests _ typed ∙ rw (lt-leb _ _ c.if-count-lt1.true))) in
-    record { value = told.0; laid = told.1; }
+    record { value = told.0; laid = told.1 }
 
 pub returns-then-count-gt-MOST_ACTORS : goal.returns-then-count-gt-MOST_ACTORS
 unfolding every
@@ -41,7 +41,7 @@ returns-then-count-gt-MOST_ACTORS c =
     let told = (let some : leb 1 c.args.s.count ≡ true = le-leb _ _ c.if-count-lt1.false in
     let typed : SystemTyped c.args.s = system-says c.args.s _ c.well_formed.0 in
     refuses _ (fine-tests _ typed ∙ rw (some, lt-leb _ _ c.if-count-gt-MOST_ACTORS.true))) in
-    record { value = told.0; laid = told.1; }
+    record { value = told.0; laid = told.1 }
 
 pub returns-then-not-net_ok : goal.returns-then-not-net_ok
 unfolding every
@@ -51,7 +51,7 @@ returns-then-not-net_ok c =
     let typed : SystemTyped c.args.s = system-says c.args.s _ c.well_formed.0 in
     let e = sym c.net_ok.ensures.value ∙ c.if-not-net_ok.true in
     refuses _ (fine-tests _ typed ∙ rw (some, few, e))) in
-    record { value = told.0; laid = told.1; }
+    record { value = told.0; laid = told.1 }
 
 pub returns-then-not-actors_pass : goal.returns-then-not-actors_pass
 unfolding every
@@ -63,7 +63,7 @@ returns-then-not-actors_pass c =
     let typed : SystemTyped c.args.s = system-says c.args.s _ c.well_formed.0 in
     let e = actors-tested ∙ c.if-not-actors_pass.true in
     refuses _ (fine-tests _ typed ∙ rw (some, few, net, e))) in
-    record { value = told.0; laid = told.1; }
+    record { value = told.0; laid = told.1 }
 
 pub returns-then-not-tables_pass : goal.returns-then-not-tables_pass
 unfolding every
@@ -77,7 +77,7 @@ returns-then-not-tables_pass c =
     let typed : SystemTyped c.args.s = system-says c.args.s _ c.well_formed.0 in
     let e = tables-tested ∙ c.if-not-tables_pass.true in
     refuses _ (fine-tests _ typed ∙ rw (some, few, net, actors, e))) in
-    record { value = told.0; laid = told.1; }
+    record { value = told.0; laid = told.1 }
 
 pub returns-then-not-actors_pass-2 : goal.returns-then-not-actors_pass-2
 unfolding every
@@ -94,7 +94,7 @@ returns-then-not-actors_pass-2 c =
     let typed : SystemTyped c.args.s = system-says c.args.s _ c.well_formed.0 in
     let e = free-tested ∙ c.if-not-actors_pass-2.true in
     refuses _ (fine-tests _ typed ∙ rw (some, few, net, actors, tables, e))) in
-    record { value = told.0; laid = told.1; }
+    record { value = told.0; laid = told.1 }
 
 pub returns : goal.returns
 unfolding every
@@ -114,4 +114,4 @@ returns c =
     let e = tables-free s.count s.tables y.tables ∙ sym c.tables_pass-2.ensures in
     tells _ _ (fine-laid s y)
     (sym (fine-tests s y ∙ rw (some, few, net, actors, tables, free) (and-true _ ∙ e)))) in
-    record { value = told.0; laid = told.1; }
+    record { value = told.0; laid = told.1 }

@@ -1,9 +1,7 @@
 use borrow.Author.Rules.{rules}
 use native.Mathlib.Omega.{arith}
 use native.Mathlib.Numerals.{add-one}
-use Prim.Native.Nat.{◌-◌}
 use mathlib.Core.Path.{◌≡◌, sym, subst, ◌∙◌}
-use lib.ListN.{length}
 use Rattle.lists.proofs.Places.{length-mapped}
 use Rattle.net_cells.specs.Cells.{zero_entry}
 use Rattle.sys_start.proofs.Fills.{Filling, fill_begins, fill_stops, fill-goes, fill-ends}

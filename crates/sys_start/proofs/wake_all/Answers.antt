@@ -1,6 +1,5 @@
 use borrow.Author.Rules.{rules}
 use native.Mathlib.Numerals.{add-one}
-use Prim.Native.Nat.{◌-◌}
 use mathlib.Core.Path.{◌≡◌, sym, ◌∙◌}
 use lib.ListN.{length, length-set}
 use Rattle.types.specs.Capacities.{most_actors}
@@ -19,8 +18,7 @@ loop-at-init c =
 
 pub wake_one-w-requires : goal.wake_one-w-requires
 wake_one-w-requires c =
-    let l = c.loop-at in
-    (
+    let l = c.loop-at in (
       l.invariant.4.net,
       l.invariant.4.room,
       table-fine _ _ _ _ _ _ c.requires l.invariant.2 l.c l.used l.len l.actors l.at l.invariant.4 c.loop-at-test.true no_table,
@@ -36,8 +34,7 @@ returns-then-not-is_done c =
 
 pub loop-at-preserved : goal.loop-at-preserved
 loop-at-preserved c =
-    let l = c.loop-at in
-    (
+    let l = c.loop-at in (
       search rules,
       l.invariant.1,
       l.invariant.2,

@@ -8,12 +8,11 @@ use borrow.Author.Rules.{rules}
 use Rattle.sys_start.proofs.wake_one.Goals as goal
 
 pub wake-s-requires : goal.wake-s-requires
-wake-s-requires c =
-    (
-      rw c.fresh_row-live.ensures (fresh-fine c.args.kind c.args.used c.args.len c.args.c.now _ _ c.requires.0 c.requires.1
-          refl refl),
-      c.rows_of-rules.ensures.1,
-    )
+wake-s-requires c = (
+  rw c.fresh_row-live.ensures (fresh-fine c.args.kind c.args.used c.args.len c.args.c.now _ _ c.requires.0 c.requires.1
+      refl refl),
+  c.rows_of-rules.ensures.1,
+)
 
 pub slice_bounds-actor_of-end : goal.slice_bounds-actor_of-end
 slice_bounds-actor_of-end c = let f = (c.wake-s.ensures 0).fine in search rules

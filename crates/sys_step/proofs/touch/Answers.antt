@@ -4,7 +4,6 @@ use mathlib.Core.Path.{refl, ◌∙◌}
 use Rattle.link_tables.specs.Rows.{rules_in}
 use Rattle.sys_moves.specs.Views.{Rows, rows_of}
 use Rattle.sys_step.proofs.Rows.{fine-rows, touches}
-use borrow.Author.Rules.{rules}
 use Rattle.sys_step.proofs.touch.Goals as goal
 
 pub act-s-requires : goal.act-s-requires

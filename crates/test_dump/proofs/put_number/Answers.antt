@@ -1,6 +1,6 @@
 use borrow.Author.Rules.{rules}
 use mathlib.Core.Path.{refl, ◌∙◌}
-use lib.ListN.{length, length-set}
+use lib.ListN.{length-set}
 use Rattle.test_dump.proofs.put_number.Goals as goal
 
 pub loop-i-init : goal.loop-i-init

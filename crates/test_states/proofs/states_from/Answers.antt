@@ -1,5 +1,4 @@
 use native.Mathlib.Omega.{arith}
-use Prim.Native.Nat.{◌-◌}
 use mathlib.Core.Path.{sym, ◌∙◌}
 use Rattle.script_check.proofs.Actions.{act-read, span}
 use Rattle.test_states.proofs.states_from.Goals as goal
