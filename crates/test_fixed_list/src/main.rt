@@ -5,8 +5,9 @@
 ghost use Rattle.std.specs.Prelude.{◌≡◌, length};
 
 use replay_input::{Input, read_all};
-use std::fs::File;
+use std::fs::OpenOptions;
 use std::io::Read;
+use std::rt::Files;
 use std::{env, io};
 use test_list_check::{Tally, check_list};
 
@@ -40,5 +41,6 @@ fn main(rt: HostRuntime) -> io::Result<()> {
     let Some(name) = env::args(&rt)?.nth(1) else {
         return Err(io::Error::from(io::ErrorKind::NotFound));
     };
-    replay_file(&rt, &mut File::open(&rt, name.as_str())?)
+    let mut list = rt.open_file(OpenOptions::new().read(true), name.as_str())?;
+    replay_file(&rt, &mut list)
 }

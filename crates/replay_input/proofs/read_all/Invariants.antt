@@ -1,4 +1,5 @@
 -- The place is within the buffer. What is left of the buffer gets less, since another read follows only one that gave something.
+-- Assumes nothing.
 use Rattle.std.proofs.Common.{◌≤◌, length, ◌-◌}
 use Rattle.replay_input.proofs.read_all.Given as goal
 

@@ -1,4 +1,5 @@
 -- `find` stays between where it begins and the end: each turn takes one byte.
+-- Assumes nothing.
 use Rattle.std.proofs.Common.{◌≤◌, ◌-◌, length}
 use Rattle.test_ill_formed.proofs.find.Given as goal
 

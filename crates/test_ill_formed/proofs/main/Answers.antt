@@ -1,4 +1,5 @@
 -- What was read lies in the buffer.
+-- Assumes nothing.
 use Rattle.replay_input.proofs.Laws.{last_fits, last_taken}
 use Rattle.test_ill_formed.proofs.main.Goals as goal
 

@@ -1,4 +1,5 @@
 -- `run` ends and cuts within the text: a line's colon stands at or behind its beginning, its end at or behind its colon.
+-- Assumes nothing.
 use Rattle.std.proofs.Common.{◌+◌, ◌≤◌, ◌-◌, length}
 use Rattle.test_ill_formed.proofs.run.Given as goal
 
