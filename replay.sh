@@ -1,6 +1,6 @@
 #!/usr/bin/env bash
-# Replays a script by the proved program, which is proved and built first where that is still to be done. A program of the kit has no exit
-# status, so this gives one, by what the program wrote and said. That is why its output goes to a file first.
+# Replays a script by the proved program, which is proved and built first where that is still to be done. The program's own exit status tells
+# none of the cases below apart, so this gives one, by what the program wrote and said. That is why its output goes to a file first.
 set -euo pipefail
 top=$(cd "$(dirname "$0")" && pwd)
 
@@ -26,19 +26,18 @@ wrong_use() { # WHY
   exit 64
 }
 
-# One at a time, since two of rt in one folder disturb each other. Passes on a line for each crate that was proved now, as it comes, and keeps
-# all that rt says.
+# Passes on a line for each crate that was proved now, as it comes, and keeps all that rt says. To prove and build the program rt has to run it
+# too: on a script of no bytes.
 prove() { # LOG
-  mkdir -p "$top/target"
-  (
-    if command -v flock > /dev/null; then flock 9; fi
-    cd "$top" && rt check replay
-  ) < /dev/null 2>&1 9> "$top/target/replay.lock" | while IFS= read -r line; do
+  local sources crate=
+  sources=$("$top/.ci/proved" sources)
+  (cd "$top/crates/replay" && rt run) < /dev/null 2>&1 > /dev/null | while IFS= read -r line; do
     printf '%s\n' "$line" >&3
     case $line in
-      "rt: "*" proved ("[0-9]*" s)") printf '%s\n' "${line#rt: }" >&2 ;;
+      "rt: chose --jobs "*" for "*) crate=${line##* } ;;
+      "logic=proved "*) echo "$crate proved" >&2 ;;
     esac
-  done 3> "$1"
+  done 3> "$1" && "$top/.ci/proved" note "$sources"
 }
 
 [ $# -le 1 ] || wrong_use "more than one argument"
@@ -49,9 +48,11 @@ esac
 
 work=$(mktemp -d)
 trap 'rm -rf "$work"' EXIT
-if ! prove "$work/log"; then
+if ! "$top/.ci/proved" && ! prove "$work/log"; then
   tail -n 5 "$work/log" >&2
-  echo "replay.sh: the program is not proved; target/log has all that was said" >&2
+  mkdir -p "$top/target"
+  cp "$work/log" "$top/target/replay.log"
+  echo "replay.sh: the program is not proved; target/replay.log has all that was said" >&2
   exit 1
 fi
 

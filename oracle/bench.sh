@@ -3,6 +3,6 @@
 set -euo pipefail
 cd "$(dirname "$0")/.."
 mkdir -p target
-rt staticlib test_states >target/bench.log
-PORT_ARCHIVE=$PWD/target/staticlib oracle/build.sh >>target/bench.log
+(cd crates/test_states && rt lib) >target/bench.log
+PORT_ARCHIVE=$PWD/crates/test_states/out oracle/build.sh >>target/bench.log
 target/oracle/build/release/oracle bench
