@@ -80,4 +80,5 @@ pub first-zeros : (x f : ℕ) → first_from f (listed x)
 unfolding listed
 first-zeros x f =
     first-from bits 0 x f f (sym (zero-add f))
-    ∙ ap (λ (n : ℕ). choose (ltb (count_trailing_zeros bits (x / 2 ^ f * 2 ^ f)) bits) (Timer n) Nothing) (zero-add (count_trailing_zeros bits (x / 2 ^ f * 2 ^ f)))
+    ∙ ap (λ (n : ℕ). choose (ltb (count_trailing_zeros bits (x / 2 ^ f * 2 ^ f)) bits) (Timer n) Nothing) (zero-add (count_trailing_zeros bits
+    (x / 2 ^ f * 2 ^ f)))

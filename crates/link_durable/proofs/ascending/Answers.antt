@@ -1,3 +1,4 @@
+-- What the search leaves open of `ascending`.
 use Rattle.lists.proofs.Walks.{pairs-on}
 use borrow.Author.Rules.{rules}
 use borrow.Author.Tests.{lt-ltb, le-ltb}

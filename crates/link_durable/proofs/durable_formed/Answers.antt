@@ -1,5 +1,4 @@
 -- The tests run in the order of the definition, but for the count of records: laid out says that already. The first that fails decides.
--- The durable part that came is laid out.
 use borrow.Author.Rules.{rules}
 use borrow.Author.Tests.{le-leb, lt-leb}
 use native.Mathlib.Omega.{arith}

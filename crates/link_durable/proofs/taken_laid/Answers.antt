@@ -1,3 +1,4 @@
+-- What the search leaves open of `taken_laid`.
 use borrow.Author.Rules.{rules}
 use borrow.Author.Tests.{le-leb, lt-leb, eq-eqb, ne_eqb}
 use native.Mathlib.Omega.{arith}

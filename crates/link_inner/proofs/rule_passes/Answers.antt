@@ -1,5 +1,4 @@
 -- A free place is tested for zero. A used one has the rule's tests in their order, and the first that fails decides.
--- ---- what holds after each test that passed
 use borrow.Author.Rules.{rules}
 use mathlib.Core.Path.{◌≡◌, sym, ◌∙◌}
 use mathlib.Core.Bool.{true, and-true}

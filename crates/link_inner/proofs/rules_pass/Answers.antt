@@ -1,3 +1,4 @@
+-- What the search leaves open of `rules_pass`.
 use borrow.Author.Rules.{rules}
 use native.Mathlib.Omega.{arith}
 use mathlib.Core.Path.{◌≡◌, refl, sym, ◌∙◌}

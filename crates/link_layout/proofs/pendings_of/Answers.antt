@@ -1,3 +1,4 @@
+-- What the search leaves open of `pendings_of`.
 use native.Mathlib.Omega.{arith}
 use mathlib.Core.Path.{◌≡◌, ap}
 use mathlib.Core.List.{[]}

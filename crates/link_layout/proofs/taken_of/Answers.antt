@@ -1,3 +1,4 @@
+-- What the search leaves open of `taken_of`.
 use borrow.Author.Rules.{rules}
 use native.Mathlib.Omega.{arith}
 use mathlib.Core.Path.{◌≡◌, sym, ap}

@@ -1,3 +1,4 @@
+-- What the search leaves open of `all_pass`.
 use mathlib.Core.Path.{refl, sym, ◌∙◌}
 use borrow.Author.Rules.{rules}
 use Rattle.lists.proofs.Walks.{walk-on, walk-fails, walk_ends}

@@ -1,3 +1,4 @@
+-- What the search leaves open of `in_order`.
 use native.Mathlib.Omega.{arith}
 use mathlib.Core.Path.{sym, ◌∙◌}
 use borrow.Author.Rules.{rules}

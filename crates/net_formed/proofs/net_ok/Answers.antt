@@ -11,7 +11,6 @@ use Rattle.types.specs.Capacities.{most_entries}
 use Rattle.net_formed.proofs.Laws.{told}
 use Rattle.net_formed.proofs.net_ok.Goals as goal
 
--- p1 to p5 are the places after the first to the fifth part.
 pub returns-then-used-gt-MOST_ENTRIES : goal.returns-then-used-gt-MOST_ENTRIES
 unfolding every
 returns-then-used-gt-MOST_ENTRIES c =

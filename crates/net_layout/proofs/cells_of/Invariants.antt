@@ -11,7 +11,8 @@ use Rattle.net_layout.proofs.cells_of.Given as goal
 
 abbrev pub invariant-loop-i : goal.invariant-loop-i
 invariant-loop-i l =
-    (l.i ≤ l.used) × (l.cs ≡ pad most_entries zero_cell (map cell_of (take l.i l.entries))) × (map entry_of (map cell_of (take l.i l.entries)) ≡ take l.i l.entries)
+    (l.i ≤ l.used) × (l.cs ≡ pad most_entries zero_cell (map cell_of (take l.i l.entries)))
+    × (map entry_of (map cell_of (take l.i l.entries)) ≡ take l.i l.entries)
 
 abbrev pub decreases-loop-i : goal.decreases-loop-i
 decreases-loop-i l = l.used - l.i

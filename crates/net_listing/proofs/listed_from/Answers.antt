@@ -1,3 +1,4 @@
+-- What the search leaves open of `listed_from`.
 use mathlib.Core.Path.{refl, sym, ◌∙◌}
 use borrow.Author.Rules.{rules}
 use Rattle.net_listing.proofs.Loops.{listed_found, listed-turn, listed-over}

@@ -1,3 +1,4 @@
+-- What the search leaves open of `offered_from`.
 use Prim.Native.Nat.{ℕ}
 use mathlib.Core.Path.{refl, sym, ap, ◌∙◌}
 use lib.ListN.{get_or}

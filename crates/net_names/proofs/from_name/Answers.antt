@@ -12,7 +12,6 @@ returns-then-same_bytes c =
     let told = (named-all c.args.name.now (rw (sym c.same_bytes.ensures ∙ c.if-same_bytes.true))) in
     record { value = told.0; says = told.1 }
 
--- p1 and p2 are the places after the first and the second test.
 pub returns-then-same_bytes-2 : goal.returns-then-same_bytes-2
 unfolding kind_named name_of choose
 returns-then-same_bytes-2 c =

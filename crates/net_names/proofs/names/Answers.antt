@@ -1,6 +1,5 @@
 -- Each arm knows the index, and so what is left of the list from there on: its first name is the one that the arm writes.
 -- Assumes nothing.
--- an arm: the name is the first of what is left at the index
 use Prim.Native.Nat.{ℕ, ◌≤◌}
 use native.Mathlib.Omega.{arith}
 use mathlib.Core.Path.{◌≡◌, refl, sym, ap, ◌∙◌}
@@ -12,6 +11,7 @@ use Rattle.net_names.specs.declared.Listed.{Listed}
 use Rattle.net_names.specs.Names.{written_as, left_on, listed_of, first_listed, first_left}
 use Rattle.net_names.proofs.names.Goals as goal
 
+-- an arm: the name is the first of what is left at the index
 arm : (k : ℕ) (name : List ℕ) (more : List (List ℕ)) (index : ℕ) (out : List ℕ) {after : List ℕ} {w : Written} {r : Listed}
     → drop k names ≡ name ∷ more → index ≡ k → (w ≡ written_as name out) × (after ≡ left_on name out) → r ≡ listed_of w
     → (r ≡ first_listed (drop index names) out) × (after ≡ first_left (drop index names) out)
@@ -30,14 +30,16 @@ pub returns-in-1 : goal.returns-in-1
 unfolding names
 returns-in-1 c =
     let a = c.args in
-    let told = arm 1 _ _ a.index a.out.now refl (omega arith) (c.write_name-in-1.ensures.value, c.write_name-in-1.ensures.out_after) c.from_written-in-1.ensures in
+    let told = arm 1 _ _ a.index a.out.now refl (omega arith)
+    (c.write_name-in-1.ensures.value, c.write_name-in-1.ensures.out_after) c.from_written-in-1.ensures in
     record { value = told.0; out_after = told.1 }
 
 pub returns-in-2 : goal.returns-in-2
 unfolding names
 returns-in-2 c =
     let a = c.args in
-    let told = arm 2 _ _ a.index a.out.now refl (omega arith) (c.write_name-in-2.ensures.value, c.write_name-in-2.ensures.out_after) c.from_written-in-2.ensures in
+    let told = arm 2 _ _ a.index a.out.now refl (omega arith)
+    (c.write_name-in-2.ensures.value, c.write_name-in-2.ensures.out_after) c.from_written-in-2.ensures in
     record { value = told.0; out_after = told.1 }
 
 pub returns-in_default : goal.returns-in_default

@@ -1,3 +1,4 @@
+-- What the search leaves open of `same_bytes`.
 use mathlib.Core.Path.{refl, sym, ◌∙◌}
 use borrow.Author.Rules.{rules}
 use Rattle.net_names.proofs.Bytes.{other_length, same_turn, same-fails, same_end}

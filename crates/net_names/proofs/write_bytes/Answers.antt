@@ -1,3 +1,4 @@
+-- What the search leaves open of `write_bytes`.
 use native.Mathlib.Nat.{zero-add}
 use native.Mathlib.Numerals.{add-one}
 use native.Mathlib.Omega.{arith}

@@ -11,9 +11,15 @@ returns-in-Ordered c =
 pub returns-in-UnorderedDuplicating : goal.returns-in-UnorderedDuplicating
 unfolding name_of
 returns-in-UnorderedDuplicating c =
-    record { value = rw c.in-UnorderedDuplicating.is c.write_bytes-in-UnorderedDuplicating.ensures.value; out_after = rw c.in-UnorderedDuplicating.is c.write_bytes-in-UnorderedDuplicating.ensures.out_after }
+    record {
+      value = rw c.in-UnorderedDuplicating.is c.write_bytes-in-UnorderedDuplicating.ensures.value;
+      out_after = rw c.in-UnorderedDuplicating.is c.write_bytes-in-UnorderedDuplicating.ensures.out_after;
+    }
 
 pub returns-in-UnorderedNonDuplicating : goal.returns-in-UnorderedNonDuplicating
 unfolding name_of
 returns-in-UnorderedNonDuplicating c =
-    record { value = rw c.in-UnorderedNonDuplicating.is c.write_bytes-in-UnorderedNonDuplicating.ensures.value; out_after = rw c.in-UnorderedNonDuplicating.is c.write_bytes-in-UnorderedNonDuplicating.ensures.out_after }
+    record {
+      value = rw c.in-UnorderedNonDuplicating.is c.write_bytes-in-UnorderedNonDuplicating.ensures.value;
+      out_after = rw c.in-UnorderedNonDuplicating.is c.write_bytes-in-UnorderedNonDuplicating.ensures.out_after;
+    }

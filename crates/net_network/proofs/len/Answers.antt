@@ -1,3 +1,4 @@
+-- What the search leaves open of `len`.
 use lib.ListN.{length, take}
 use mathlib.Core.Path.{◌≡◌, ap, ◌∙◌}
 use Rattle.lists.proofs.Places.{length-mapped}

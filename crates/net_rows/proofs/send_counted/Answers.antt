@@ -1,4 +1,4 @@
--- The look_up tells whether it is there: then one copy more is counted, and else it goes in.
+-- The search tells whether it is there: then one copy more is counted, and else it goes in.
 -- Assumes nothing.
 use mathlib.Core.Path.{sym, ◌∙◌}
 use Rattle.net_rows.proofs.ByKind.{ascend, counted-sorted, at-fits, free-fits, sent-free, sent-again}

@@ -1,4 +1,4 @@
--- The look_up tells whether it is there: then nothing changes, and else it goes in.
+-- The search tells whether it is there: then nothing changes, and else it goes in.
 -- Assumes nothing.
 use mathlib.Core.Path.{sym, ◌∙◌}
 use Rattle.net_rows.proofs.ByKind.{ascend, set-sorted, free-fits, sent-free, sent-same}

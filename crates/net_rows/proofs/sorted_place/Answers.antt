@@ -1,4 +1,4 @@
--- The look_up finds the one cell that can be equal. Where it is missing, all entries differ.
+-- The search finds the one cell that can be equal. Where it is missing, all entries differ.
 -- Assumes nothing.
 use mathlib.Core.Path.{sym, ◌∙◌}
 use Rattle.net_rows.proofs.Laws.{sized}

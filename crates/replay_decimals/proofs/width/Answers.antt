@@ -1,3 +1,4 @@
+-- What the search leaves open of `width`.
 use native.Mathlib.Omega.{arith}
 use Rattle.replay_decimals.proofs.Laws.{length-small, length_more, length-decimal}
 use Rattle.replay_decimals.proofs.width.Goals as goal

@@ -1,3 +1,4 @@
+-- What the search leaves open of `write_decimal`.
 use borrow.Author.Rules.{rules}
 use native.Mathlib.Omega.{arith}
 use Prim.Native.Nat.{ℕ, ◌+◌, ◌-◌, ◌%◌}

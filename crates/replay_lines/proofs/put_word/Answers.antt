@@ -1,3 +1,4 @@
+-- What the search leaves open of `put_word`.
 use Prim.Native.Nat.{ℕ}
 use native.Mathlib.Omega.{arith}
 use borrow.Author.Rules.{rules}

@@ -1,3 +1,4 @@
+-- What the search leaves open of `play`.
 use native.Mathlib.Omega.{arith}
 use mathlib.Core.Path.{sym, ◌∙◌}
 use Rattle.replay_lines.proofs.Laws.{length-left}

@@ -1,3 +1,4 @@
+-- What the search leaves open of `copy_rows`.
 use native.Mathlib.Omega.{arith}
 use mathlib.Core.Path.{◌≡◌, refl}
 use mathlib.Core.List.{[]}

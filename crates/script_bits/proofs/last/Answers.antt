@@ -1,3 +1,4 @@
+-- What the search leaves open of `last`.
 use native.Mathlib.Omega.{arith}
 use Prim.Native.Nat.{◌-◌, ◌*◌}
 use mathlib.Core.Path.{◌≡◌, sym}

@@ -1,3 +1,4 @@
+-- What the search leaves open of `check_actions`.
 use native.Mathlib.Omega.{arith}
 use mathlib.Core.Path.{refl, sym, ◌∙◌}
 use Rattle.script_check.proofs.Actions.{layout-act, layout-end, layout-more, layout-bad}

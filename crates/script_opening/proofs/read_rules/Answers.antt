@@ -1,3 +1,4 @@
+-- What the search leaves open of `read_rules`.
 use native.Mathlib.Omega.{arith}
 use mathlib.Core.Path.{◌≡◌, sym, ap, ◌∙◌}
 use lib.ListN.{take}

@@ -1,3 +1,4 @@
+-- What the search leaves open of `read_tables`.
 use mathlib.Core.Path.{◌≡◌, sym, ap, ◌∙◌}
 use lib.ListN.{take, drop}
 use Rattle.lists.specs.Lists.{pad}

@@ -1,3 +1,4 @@
+-- What the search leaves open of `lay_out_actors`.
 use Prim.Native.Nat.{ℕ, ◌<◌}
 use mathlib.Core.Path.{◌≡◌, subst}
 use mathlib.Core.List.{[]}

@@ -1,3 +1,4 @@
+-- What the search leaves open of `deliver`.
 use native.Mathlib.Omega.{arith}
 use borrow.Author.Tests.{eq-eqb, ne_eqb}
 use Rattle.link_tables.specs.Rows.{rules_in}

@@ -1,3 +1,4 @@
+-- What the search leaves open of `hear`.
 use native.Mathlib.Omega.{arith}
 use Rattle.sys_moves.specs.Views.{rows_of}
 use Rattle.sys_rows.proofs.Laws.{state-small}

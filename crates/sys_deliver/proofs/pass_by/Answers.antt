@@ -1,3 +1,4 @@
+-- What the search leaves open of `pass_by`.
 use Rattle.sys_rows.proofs.Laws.{timers-small}
 use Rattle.sys_moves.specs.Views.{rows_of}
 use Rattle.sys_deliver.proofs.Passed.{passed-acted}

@@ -1,3 +1,4 @@
+-- What the search leaves open of `emit`.
 use Prim.Native.Nat.{◌+◌, ◌≤◌, ◌<◌}
 use borrow.Author.Rules.{rules}
 use native.Mathlib.Omega.{arith}

@@ -7,7 +7,8 @@ use Rattle.sys_formed.specs.Views.{actor_passes}
 use Rattle.sys_formed.proofs.actors_pass.Given as goal
 
 abbrev pub invariant-loop-i : goal.invariant-loop-i
-invariant-loop-i l = all (actor_passes l.free l.count) (drop l.i (take l.to l.actors)) ≡ all (actor_passes l.free l.count) (drop l.initial.i (take l.to l.actors))
+invariant-loop-i l = all (actor_passes l.free l.count) (drop l.i (take l.to l.actors)) ≡ all (actor_passes l.free l.count) (drop l.initial.i
+    (take l.to l.actors))
 
 abbrev pub decreases-loop-i : goal.decreases-loop-i
 decreases-loop-i l = l.to - l.i

@@ -1,5 +1,4 @@
 -- Each test that fails decides, and the last one decides where the others hold. The walks look at each place once: the used ones, then the free ones.
--- ---- the system that came
 use mathlib.Core.Path.{◌≡◌, sym, ◌∙◌}
 use mathlib.Core.Bool.{Bool, true, and-true}
 use lib.ListN.{take, drop}
@@ -56,7 +55,8 @@ returns-then-not-net_ok c =
 pub returns-then-not-actors_pass : goal.returns-then-not-actors_pass
 unfolding every
 returns-then-not-actors_pass c =
-    let told = (let actors-tested : actors_used c.args.s ≡ c.actors_pass.result = let s = c.args.s in actors-used s.count (take s.count s.actors) ∙ sym c.actors_pass.ensures in
+    let told = (let actors-tested : actors_used c.args.s ≡ c.actors_pass.result = let s = c.args.s in
+    actors-used s.count (take s.count s.actors) ∙ sym c.actors_pass.ensures in
     let some : leb 1 c.args.s.count ≡ true = le-leb _ _ c.if-count-lt1.false in
     let few : leb c.args.s.count most_actors ≡ true = le-leb _ _ c.if-count-gt-MOST_ACTORS.false in
     let net : net_formed c.args.s.network c.args.s.count ≡ true = sym c.net_ok.ensures.value ∙ c.if-not-net_ok.false in
@@ -68,7 +68,8 @@ returns-then-not-actors_pass c =
 pub returns-then-not-tables_pass : goal.returns-then-not-tables_pass
 unfolding every
 returns-then-not-tables_pass c =
-    let told = (let actors-tested : actors_used c.args.s ≡ c.actors_pass.result = let s = c.args.s in actors-used s.count (take s.count s.actors) ∙ sym c.actors_pass.ensures in
+    let told = (let actors-tested : actors_used c.args.s ≡ c.actors_pass.result = let s = c.args.s in
+    actors-used s.count (take s.count s.actors) ∙ sym c.actors_pass.ensures in
     let tables-tested : tables_used c.args.s ≡ c.tables_pass.result = let s = c.args.s in tables-used (take s.count s.tables) ∙ sym c.tables_pass.ensures in
     let some : leb 1 c.args.s.count ≡ true = le-leb _ _ c.if-count-lt1.false in
     let few : leb c.args.s.count most_actors ≡ true = le-leb _ _ c.if-count-gt-MOST_ACTORS.false in
@@ -82,7 +83,8 @@ returns-then-not-tables_pass c =
 pub returns-then-not-actors_pass-2 : goal.returns-then-not-actors_pass-2
 unfolding every
 returns-then-not-actors_pass-2 c =
-    let told = (let actors-tested : actors_used c.args.s ≡ c.actors_pass.result = let s = c.args.s in actors-used s.count (take s.count s.actors) ∙ sym c.actors_pass.ensures in
+    let told = (let actors-tested : actors_used c.args.s ≡ c.actors_pass.result = let s = c.args.s in
+    actors-used s.count (take s.count s.actors) ∙ sym c.actors_pass.ensures in
     let tables-tested : tables_used c.args.s ≡ c.tables_pass.result = let s = c.args.s in tables-used (take s.count s.tables) ∙ sym c.tables_pass.ensures in
     let free-tested : actors_free c.args.s ≡ c.actors_pass-2.result = let s = c.args.s in
     actors-free s.count s.count s.actors (system-says c.args.s _ c.well_formed.0).actors ∙ sym c.actors_pass-2.ensures in
@@ -99,7 +101,8 @@ returns-then-not-actors_pass-2 c =
 pub returns : goal.returns
 unfolding every
 returns c =
-    let told = (let actors-tested : actors_used c.args.s ≡ c.actors_pass.result = let s = c.args.s in actors-used s.count (take s.count s.actors) ∙ sym c.actors_pass.ensures in
+    let told = (let actors-tested : actors_used c.args.s ≡ c.actors_pass.result = let s = c.args.s in
+    actors-used s.count (take s.count s.actors) ∙ sym c.actors_pass.ensures in
     let tables-tested : tables_used c.args.s ≡ c.tables_pass.result = let s = c.args.s in tables-used (take s.count s.tables) ∙ sym c.tables_pass.ensures in
     let free-tested : actors_free c.args.s ≡ c.actors_pass-2.result = let s = c.args.s in
     actors-free s.count s.count s.actors (system-says c.args.s _ c.well_formed.0).actors ∙ sym c.actors_pass-2.ensures in

@@ -1,3 +1,4 @@
+-- What the search leaves open of `ack_only`.
 use mathlib.Core.Path.{refl, subst}
 use mathlib.Core.List.{List}
 use Rattle.rules.specs.Link.{Command}

@@ -1,3 +1,4 @@
+-- What the search leaves open of `by_rule`.
 use mathlib.Core.Path.{sym, ◌∙◌}
 use borrow.Author.Tests.{eq-eqb, ne_eqb}
 use Rattle.link_tables.specs.Rows.{orders}
@@ -13,7 +14,6 @@ bounds-live-0 c = let z = c.requires.0.live.room in search rules
 pub refusal_of-why-requires : goal.refusal_of-why-requires
 refusal_of-why-requires c = (c.requires.1, c.requires.0.live.room, c.requires.0.live.pending)
 
--- In what follows d is the place after the test of 6 and 7, and b the one after the test of 8.
 pub returns-then-not-is_done : goal.returns-then-not-is_done
 returns-then-not-is_done c =
     let a = c.args in

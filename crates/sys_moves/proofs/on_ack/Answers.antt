@@ -1,3 +1,4 @@
+-- What the search leaves open of `on_ack`.
 use mathlib.Core.Path.{sym, ◌∙◌}
 use Rattle.sys_moves.specs.Views.{Rows, rows_of}
 use Rattle.sys_moves.proofs.Messages.{ack-absent, ack-done}

@@ -1,3 +1,4 @@
+-- What the search leaves open of `on_message`.
 use mathlib.Core.Path.{sym, ◌∙◌}
 use Rattle.link_tables.specs.Rows.{orders}
 use Rattle.link_tables.proofs.Told.{row-four}
@@ -23,7 +24,6 @@ refusal_of-why-requires c = (c.requires.1, c.requires.0.live.room, c.requires.0.
 pub when_refused-b-requires : goal.when_refused-b-requires
 when_refused-b-requires c = c.requires.0.net
 
--- In what follows d is the place after the test of 6 and 7, and b the one after the test of 3 and 8.
 pub returns-then-not-is_done : goal.returns-then-not-is_done
 returns-then-not-is_done c =
     let a = c.args in

@@ -1,3 +1,4 @@
+-- What the search leaves open of `refusal_of`.
 use mathlib.Core.Path.{ap, ◌∙◌}
 use Prim.Native.Nat.{ℕ}
 use lib.ListN.{get_or}

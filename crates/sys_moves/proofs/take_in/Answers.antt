@@ -1,3 +1,4 @@
+-- What the search leaves open of `take_in`.
 use Rattle.link_tables.specs.Rows.{orders}
 use Rattle.sys_moves.proofs.Taken.{noticed-laid, noticed-places, noticed-numbers, noticed-settled}
 use Rattle.sys_moves.proofs.take_in.Goals as goal

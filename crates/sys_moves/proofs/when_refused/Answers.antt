@@ -1,3 +1,4 @@
+-- What the search leaves open of `when_refused`.
 use Rattle.types.specs.declared.Kind.TheVariants.{Ordered, UnorderedDuplicating, UnorderedNonDuplicating}
 use mathlib.Core.Path.{refl}
 use Rattle.lists.specs.Lists.{choose}

@@ -1,3 +1,4 @@
+-- What the search leaves open of `acked_row`.
 use native.Mathlib.Omega.{arith}
 use mathlib.Core.Path.{sym, ◌∙◌}
 use Rattle.link_tables.specs.Rows.{orders}

@@ -1,3 +1,4 @@
+-- What the search leaves open of `react_row`.
 use native.Mathlib.Omega.{arith}
 use mathlib.Core.Path.{sym, ◌∙◌}
 use mathlib.Core.List.{◌++◌}

@@ -1,3 +1,4 @@
+-- What the search leaves open of `refusal`.
 use native.Mathlib.Omega.{arith}
 use Rattle.sys_reacts.proofs.Laws.{both-fit, numbers-out, places-out}
 use borrow.Author.Rules.{rules}

@@ -1,3 +1,4 @@
+-- What the search leaves open of `roomy`.
 use native.Mathlib.Omega.{arith}
 use mathlib.Core.Bool.{false}
 use mathlib.Core.Path.{refl}

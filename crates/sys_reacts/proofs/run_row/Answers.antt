@@ -1,3 +1,4 @@
+-- What the search leaves open of `run_row`.
 use mathlib.Core.Path.{sym, ◌∙◌}
 use mathlib.Core.List.{◌∷◌}
 use lib.ListN.{take}

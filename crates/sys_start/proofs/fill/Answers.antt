@@ -1,3 +1,4 @@
+-- What the search leaves open of `fill`.
 use borrow.Author.Rules.{rules}
 use native.Mathlib.Omega.{arith}
 use native.Mathlib.Numerals.{add-one}

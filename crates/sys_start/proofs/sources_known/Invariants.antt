@@ -8,7 +8,8 @@ use Rattle.rules.specs.WellFormed.{source_known}
 use Rattle.sys_start.proofs.sources_known.Given as goal
 
 abbrev pub invariant-loop-i : goal.invariant-loop-i
-invariant-loop-i l = (l.i ≤ l.used) × (all (source_known l.count) (drop l.i (take l.used l.list)) ≡ all (source_known l.count) (drop l.initial.i (take l.used l.list)))
+invariant-loop-i l = (l.i ≤ l.used)
+    × (all (source_known l.count) (drop l.i (take l.used l.list)) ≡ all (source_known l.count) (drop l.initial.i (take l.used l.list)))
 
 abbrev pub decreases-loop-i : goal.decreases-loop-i
 decreases-loop-i l = l.used - l.i

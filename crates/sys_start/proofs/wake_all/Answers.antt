@@ -1,3 +1,4 @@
+-- What the search leaves open of `wake_all`.
 use borrow.Author.Rules.{rules}
 use native.Mathlib.Numerals.{add-one}
 use mathlib.Core.Path.{◌≡◌, sym, ◌∙◌}

@@ -1,3 +1,4 @@
+-- What the search leaves open of `load`.
 use mathlib.Core.Path.{◌≡◌}
 use lib.ListN.{length}
 use Rattle.types.specs.Capacities.{most_pending}

@@ -1,3 +1,4 @@
+-- What the search leaves open of `start`.
 use native.Mathlib.Omega.{arith}
 use Rattle.link_tables.specs.Rows.{rules_in}
 use Rattle.sys_moves.specs.Views.{Rows, rows_of}

@@ -1,3 +1,4 @@
+-- What the search leaves open of `start_event`.
 use Rattle.sys_wake.proofs.Loads.{event-none, event-some}
 use Rattle.sys_wake.proofs.start_event.Goals as goal
 

@@ -1,3 +1,4 @@
+-- What the search leaves open of `start_row`.
 use Rattle.sys_wake.proofs.Loads.{row-found, row-none}
 use Rattle.sys_wake.proofs.start_row.Goals as goal
 

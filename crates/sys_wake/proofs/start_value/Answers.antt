@@ -1,3 +1,4 @@
+-- What the search leaves open of `start_value`.
 use Rattle.sys_wake.proofs.Loads.{value_none, value-some}
 use Rattle.sys_wake.proofs.start_value.Goals as goal
 

@@ -1,3 +1,4 @@
+-- What the search leaves open of `with_network`.
 use mathlib.Core.Path.{ap, ◌∙◌}
 use Rattle.link_timers.specs.declared.Change.{Change}
 use Rattle.link_timers.specs.Views.{listed}

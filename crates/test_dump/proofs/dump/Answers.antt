@@ -1,3 +1,4 @@
+-- What the search leaves open of `dump`.
 use borrow.Author.Rules.{rules}
 use mathlib.Core.Path.{refl}
 use Rattle.test_dump.proofs.dump.Goals as goal

@@ -1,3 +1,4 @@
+-- What the search leaves open of `put_number`.
 use borrow.Author.Rules.{rules}
 use mathlib.Core.Path.{refl, ◌∙◌}
 use lib.ListN.{length-set}

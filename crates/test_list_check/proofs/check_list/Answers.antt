@@ -1,3 +1,4 @@
+-- What the search leaves open of `check_list`.
 use native.Mathlib.Omega.{arith}
 use Prim.Native.Nat.{ℕ, ◌+◌, ◌≤◌, ◌<◌}
 use mathlib.Core.Path.{◌≡◌, refl, sym, ap, ◌∙◌}
@@ -14,6 +15,7 @@ module _ (list rest : List ℕ) (at size : ℕ) (r : rest ≡ drop at list) (s :
   room : at ≤ length list → at + size ≤ length list
   room h = omega (arith, pair-within rest, ap length r, length-drop at list)
 
+  -- A turn: what was left tells the pair at its front, and what is left after it.
   turn : (t : Tally) {u : Tally} {b : Bool} → 0 < size → b ≡ right rest → u ≡ counted t b → tallied list ≡ walk 0 (drop at list) t
       → tallied list ≡ walk 0 (drop (at + size) list) u
   turn t {u} {b} h p q e =

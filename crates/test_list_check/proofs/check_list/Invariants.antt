@@ -1,6 +1,5 @@
 -- `check_list` meets its contract. The invariant: what the whole list tells is what is left of it tells after what was counted.
 -- Assumes nothing.
--- A turn: what was left tells the pair at its front, and what is left after it.
 use Prim.Native.Nat.{◌-◌, ◌≤◌}
 use mathlib.Core.Path.{◌≡◌}
 use lib.ListN.{length, drop}

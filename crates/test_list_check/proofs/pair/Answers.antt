@@ -1,6 +1,5 @@
 -- `pair` meets its contract: the second part is that of the list after the first.
 -- Assumes nothing.
--- The size of the second part, told of the slice that begins there.
 use native.Mathlib.Omega.{arith}
 use Prim.Native.Nat.{ℕ}
 use mathlib.Core.Path.{◌≡◌, ap, ◌∙◌}
@@ -10,6 +9,7 @@ use Rattle.test_list_check.specs.List.{part_size, second}
 use Rattle.test_list_check.proofs.Laws.{no-script, no_output, both, sum-within}
 use Rattle.test_list_check.proofs.pair.Goals as goal
 
+-- The size of the second part, told of the slice that begins there.
 then : (l : List ℕ) {m n : ℕ} {s : List ℕ} → m ≡ part_size l → s ≡ drop m l → n ≡ part_size s → n ≡ part_size (second l)
 then l p q r = r ∙ ap part_size (q ∙ ap (λ (k : ℕ). drop k l) p)
 

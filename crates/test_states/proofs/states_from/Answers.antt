@@ -1,3 +1,4 @@
+-- What the search leaves open of `states_from`.
 use native.Mathlib.Omega.{arith}
 use mathlib.Core.Path.{sym, ◌∙◌}
 use Rattle.script_check.proofs.Actions.{act-read, span}
