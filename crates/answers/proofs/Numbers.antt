@@ -8,26 +8,25 @@ use mathlib.Core.List.{List, [], ◌∷◌}
 use lib.ListN.{length, get_or, get_or-eq_default}
 use lib.Dec.{leb}
 use borrow.Author.Tests.{leb-true, leb-false}
-use Rattle.answers.specs.declared.Answer.{Answer}
-use Rattle.answers.specs.declared.Answer.TheVariants.{Done, Ignored, OutOfRange, Absent, Live, NotSet, NumbersUsedUp, PendingFull, NetworkFull}
-use Rattle.answers.specs.declared.Answer.TheVariants.{NotWellFormed, StartRefused, Unreadable, UnknownName}
-use Rattle.answers.specs.Answers.{answer_number, all_answers, answer_of}
+use Rattle.std.specs.Prelude.{Ok, Err}
+use Rattle.answers.specs.declared.Refusal.TheVariants as refusal
+use Rattle.answers.specs.Answers.{Answer, Done, UnknownName, answer_number, all_answers, answer_of}
 
 pub number-answer : (a : Answer) → answer_of (answer_number a) ≡ a
 unfolding answer_of
-number-answer Done = refl
-number-answer Ignored = refl
-number-answer OutOfRange = refl
-number-answer Absent = refl
-number-answer Live = refl
-number-answer NotSet = refl
-number-answer NumbersUsedUp = refl
-number-answer PendingFull = refl
-number-answer NetworkFull = refl
-number-answer NotWellFormed = refl
-number-answer StartRefused = refl
-number-answer Unreadable = refl
-number-answer UnknownName = refl
+number-answer (Ok tt) = refl
+number-answer (Err refusal.Ignored) = refl
+number-answer (Err refusal.OutOfRange) = refl
+number-answer (Err refusal.Absent) = refl
+number-answer (Err refusal.Live) = refl
+number-answer (Err refusal.NotSet) = refl
+number-answer (Err refusal.NumbersUsedUp) = refl
+number-answer (Err refusal.PendingFull) = refl
+number-answer (Err refusal.NetworkFull) = refl
+number-answer (Err refusal.NotWellFormed) = refl
+number-answer (Err refusal.StartRefused) = refl
+number-answer (Err refusal.Unreadable) = refl
+number-answer (Err refusal.UnknownName) = refl
 
 -- No two answers have one number.
 pub number-inj : (a b : Answer) → answer_number a ≡ answer_number b → a ≡ b

@@ -1,23 +1,69 @@
 -- The answers' numbers.
-use Rattle.std.specs.Prelude.{ℕ, List, [], ◌∷◌, Bool, get_or, eqb}
-use Rattle.answers.specs.declared.Answer.{Answer}
-use Rattle.answers.specs.declared.Answer.TheVariants.{Done, Ignored, OutOfRange, Absent, Live, NotSet, NumbersUsedUp, PendingFull, NetworkFull}
-use Rattle.answers.specs.declared.Answer.TheVariants.{NotWellFormed, StartRefused, Unreadable, UnknownName}
+use Rattle.std.specs.Prelude.{ℕ, List, [], ◌∷◌, Bool, get_or, eqb, Result, Ok, Err}
+use Rattle.answers.specs.declared.Refusal.{Refusal}
+use Rattle.answers.specs.declared.Refusal.TheVariants as refusal
+
+-- Done, or a refusal.
+abbrev pub Answer : Type 0
+Answer = Result (Unit {0}) Refusal
+
+-- The answers by their names.
+abbrev pub Done : Answer
+Done = Ok tt
+
+abbrev pub Ignored : Answer
+Ignored = Err refusal.Ignored
+
+abbrev pub OutOfRange : Answer
+OutOfRange = Err refusal.OutOfRange
+
+abbrev pub Absent : Answer
+Absent = Err refusal.Absent
+
+abbrev pub Live : Answer
+Live = Err refusal.Live
+
+abbrev pub NotSet : Answer
+NotSet = Err refusal.NotSet
+
+abbrev pub NumbersUsedUp : Answer
+NumbersUsedUp = Err refusal.NumbersUsedUp
+
+abbrev pub PendingFull : Answer
+PendingFull = Err refusal.PendingFull
+
+abbrev pub NetworkFull : Answer
+NetworkFull = Err refusal.NetworkFull
+
+abbrev pub NotWellFormed : Answer
+NotWellFormed = Err refusal.NotWellFormed
+
+abbrev pub StartRefused : Answer
+StartRefused = Err refusal.StartRefused
+
+abbrev pub Unreadable : Answer
+Unreadable = Err refusal.Unreadable
+
+abbrev pub UnknownName : Answer
+UnknownName = Err refusal.UnknownName
+
+abbrev pub refusal_number : Refusal → ℕ
+refusal_number refusal.Ignored = 1
+refusal_number refusal.OutOfRange = 2
+refusal_number refusal.Absent = 3
+refusal_number refusal.Live = 4
+refusal_number refusal.NotSet = 5
+refusal_number refusal.NumbersUsedUp = 6
+refusal_number refusal.PendingFull = 7
+refusal_number refusal.NetworkFull = 8
+refusal_number refusal.NotWellFormed = 9
+refusal_number refusal.StartRefused = 10
+refusal_number refusal.Unreadable = 11
+refusal_number refusal.UnknownName = 12
 
 abbrev pub answer_number : Answer → ℕ
-answer_number Done = 0
-answer_number Ignored = 1
-answer_number OutOfRange = 2
-answer_number Absent = 3
-answer_number Live = 4
-answer_number NotSet = 5
-answer_number NumbersUsedUp = 6
-answer_number PendingFull = 7
-answer_number NetworkFull = 8
-answer_number NotWellFormed = 9
-answer_number StartRefused = 10
-answer_number Unreadable = 11
-answer_number UnknownName = 12
+answer_number (Ok u) = 0
+answer_number (Err r) = refusal_number r
 
 abbrev pub is_done : Answer → Bool
 is_done a = eqb (answer_number a) 0

@@ -5,7 +5,7 @@ use Prim.Native.Nat.{ℕ, ◌≤◌}
 use native.Mathlib.Omega.{arith}
 use mathlib.Core.Path.{◌≡◌, refl, ◌∙◌}
 use mathlib.Core.Bool.{true, false, and-true}
-use mathlib.Core.Option.{Option, none, some}
+use Rattle.std.specs.Prelude.{Option, Some, None}
 use mathlib.Core.List.{[], ◌∷◌}
 use lib.Dec.{lit≤}
 use Rattle.lists.specs.Lists.{choose, every}
@@ -54,13 +54,13 @@ durable-kept k d h e =
     let p = f.few in let t = f.tooks in
     every-make _ _ (durable-fits d p (omega arith)) (every-make _ _ (rw (durable-back d) e) every-nil)
 
-some-ok : (k : ℕ) (d : rules.Durable) → stored_ok base.limits k (some d) ≡ true → durable_ok base.limits k d ≡ true
+some-ok : (k : ℕ) (d : rules.Durable) → stored_ok base.limits k (Some d) ≡ true → durable_ok base.limits k d ≡ true
 unfolding stored_ok
 some-ok k d e = e
 
 pub stored-kept : (k : ℕ) (st : Option rules.Durable) → k ≤ most_actors → stored_ok base.limits k st ≡ true → stored_fine k (stored_as st) ≡ true
 unfolding unsaved blank_durable every
-stored-kept k none h e =
+stored-kept k None h e =
     let l = durable-fits zero_durable (lit≤ tt) (lit≤ tt) in
-    rw (stored-none k (stored_as none) refl) (rw l)
-stored-kept k (some d) h e = stored_some k (stored_as (some d)) refl ∙ durable-kept k d h (some-ok k d e)
+    rw (stored-none k (stored_as None) refl) (rw l)
+stored-kept k (Some d) h e = stored_some k (stored_as (Some d)) refl ∙ durable-kept k d h (some-ok k d e)

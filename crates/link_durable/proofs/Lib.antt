@@ -1,2 +1,3 @@
 pub mod Containers
 pub mod Kept
+pub mod Tests

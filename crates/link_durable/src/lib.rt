@@ -1,41 +1,57 @@
 // The link's durable part: ordered arrays in structs with a count, and the tests of any content.
 #![tactic(auto)]
 
-ghost use Rattle.std.specs.Prelude.{◌≡◌, true, ◌≤◌, ◌<◌, take, drop, leb};
+ghost use Rattle.std.specs.Prelude.{◌≡◌, ◌≤◌, Bool, true, leb};
 ghost use Rattle.lists.specs.Lists.{all, chain, ends_in};
-ghost use Rattle.types.specs.Capacities.{most_pending, most_actors};
 ghost use Rattle.rules.specs.Outcome.{base};
-ghost use Rattle.rules.specs.Link.{acked};
-ghost use Rattle.rules.specs.WellFormed.{by_number, durable_ok};
-ghost use Rattle.link_durable.specs.Views.{pending_list, taken_list, durable_view};
-ghost use Rattle.link_durable.specs.Views.{blank_pending, pending_passes, pendings_laid, taken_laid, durable_laid, unsaved, blank_durable};
+ghost use Rattle.rules.specs.WellFormed.{pending_ok, by_number, durable_ok};
+ghost use Rattle.link_durable.specs.Views.{in_use, laid, durable_view};
+ghost use Rattle.link_durable.specs.Views.{blank_pending, pendings_laid, taken_laid, durable_laid, blank_durable};
 ghost use Rattle.link_durable.specs.Views.{durable_fine, stored_fine};
 
-use types::{Id, MOST_ACTORS, MOST_PENDING, Number, Payload, Pending, Storage};
+use types::{Id, MOST_ACTORS, MOST_PENDING, Number, Payload, Pending};
 
-// Messages sent and not acked, ascending by number. Places from the used count on are zero.
+// An array of which the first places are used, as there is no heap. Places from the used count on are zero.
 #[derive(Clone, Copy)]
-pub struct Pendings {
-    pub records: [Pending; MOST_PENDING],
+pub struct Filled<T, const N: usize> {
+    pub places: [T; N],
     pub used: usize,
 }
 
-// At place s the number last taken from source s. Places from the used count on are zero.
-#[derive(Clone, Copy)]
-pub struct Taken {
-    pub last: [Number; MOST_ACTORS],
-    pub used: usize,
+impl<T, const N: usize> Filled<T, N> {
+    fn in_use(&self) -> &[T]
+        requires { self.now.used ≤ N }
+        ensures { result.now ≡ in_use self.now }
+    {
+        &self.places[..self.used]
+    }
+
+    // The count fits, and the free places pass a test.
+    fn is_laid<F: FnMut(&T) -> bool>(&self, blank: F) -> bool
+        requires { (f : F) (x : _) → F.pre f x }
+        ensures { (p : T → Bool) → ((f g : F) (x : _) (b : Bool) → F.step f x b g → (g ≡ f) × (b ≡ p x.now)) → result ≡ laid p self.now }
+    {
+        let places = &self.places[..];
+        self.used <= N && places[self.used..].iter().all(blank)
+    }
 }
+
+// Messages sent and not acked, ascending by number.
+pub type Pendings = Filled<Pending, MOST_PENDING>;
+
+// At place s the number last taken from source s.
+pub type Taken = Filled<Number, MOST_ACTORS>;
 
 #[derive(Clone, Copy)]
 pub struct Durable {
     pub next: Number,
     pub pending: Pendings,
     pub taken: Taken,
-    pub inner: Storage,
+    pub inner: Option<u32>,
 }
 
-// What an actor has stored. Where `some` is false nothing is, and the durable part is all zero.
+// What an actor has stored. Where `some` is false nothing is, and the durable part is all zero. A flag and no Option: a content that is
+// not well formed may have `some` false before a durable part that is not zero. It is refused, and an Option could not hold it.
 #[derive(Clone, Copy)]
 pub struct Stored {
     pub some: bool,
@@ -50,188 +66,95 @@ pub struct Link {
 }
 
 // ---- tests of any content
-fn blank_pending(q: Pending) -> bool
-    ensures { result ≡ blank_pending q }
+// Field by field: `==` would need a zero record to compare with, and be no shorter.
+#[tactic(auto, unfolding(lists::specs::Lists::every, crate::specs::Views::blank_pending))]
+fn blank_pending(q: &Pending) -> bool
+    ensures { result ≡ blank_pending q.now }
 {
-    if q.number.0 != 0 {
-        return false;
-    }
-    if q.dst.0 != 0 {
-        return false;
-    }
-    q.payload.0 == 0
+    q.number.0 == 0 && q.dst.0 == 0 && q.payload.0 == 0
 }
 
-// A place for a record: zero where it is free. A used one has a number of 1 or more, below the next one.
-fn pending_passes(free: bool, next: u64, q: Pending) -> bool
-    ensures { result ≡ pending_passes free next q }
+// A record has a number of 1 or more, below the next one.
+#[tactic(auto, unfolding(rules::specs::WellFormed::pending_ok))]
+fn pending_ok(next: u64, q: &Pending) -> bool
+    ensures { result ≡ pending_ok next q.now }
 {
-    if free {
-        return blank_pending(q);
-    }
-    if q.number.0 < 1 {
-        return false;
-    }
-    q.number.0 < next
+    1 <= q.number.0 && q.number.0 < next
 }
 
-// The places from one up to another: free, or used.
-fn pendings_pass(p: Pendings, free: bool, next: u64, from: usize, to: usize) -> bool
-    requires { to ≤ most_pending }
-    ensures { result ≡ all (pending_passes free next) (drop from (take to p.records)) }
+fn pendings_laid(p: &Pendings) -> bool
+    ensures { result ≡ pendings_laid p.now }
 {
-    let records = p.records;
-    let mut i = from;
-    while i < to {
-        let here = records[i];
-        if !pending_passes(free, next, here) {
-            return false;
-        }
-        i += 1;
-    }
-    true
+    p.is_laid(blank_pending)
 }
 
-fn pendings_laid(p: Pendings) -> bool
-    ensures { result ≡ pendings_laid p }
+fn taken_laid(t: &Taken) -> bool
+    ensures { result ≡ taken_laid t.now }
 {
-    let used = p.used;
-    if MOST_PENDING < used {
-        return false;
-    }
-    pendings_pass(p, true, 0, used, MOST_PENDING)
+    t.is_laid(|n| n.0 == 0)
 }
 
-fn taken_laid(t: Taken) -> bool
-    ensures { result ≡ taken_laid t }
+#[tactic(auto, unfolding(lists::specs::Lists::every, crate::specs::Views::durable_laid))]
+fn durable_laid(d: &Durable) -> bool
+    ensures { result ≡ durable_laid d.now }
 {
-    let used = t.used;
-    if MOST_ACTORS < used {
-        return false;
-    }
-    let last = t.last;
-    let mut i = used;
-    while i < MOST_ACTORS {
-        let here = last[i];
-        if here.0 != 0 {
-            return false;
-        }
-        i += 1;
-    }
-    true
+    pendings_laid(&d.pending) && taken_laid(&d.taken)
 }
 
-fn durable_laid(d: Durable) -> bool
-    ensures { result ≡ durable_laid d }
+fn numbers_ok(next: u64, pending: &[Pending]) -> bool
+    ensures { result ≡ all (pending_ok next) pending.now }
 {
-    let p = d.pending;
-    if !pendings_laid(p) {
-        return false;
-    }
-    let t = d.taken;
-    taken_laid(t)
+    pending.iter().all(|q| pending_ok(next, q))
 }
 
 // Each number is below the next one.
-fn ascending(p: Pendings) -> bool
-    requires { p.used ≤ most_pending }
-    ensures { result ≡ chain by_number (pending_list p) }
+fn ascending(pending: &[Pending]) -> bool
+    ensures { result ≡ chain by_number pending.now }
 {
-    let used = p.used;
-    let records = p.records;
-    let mut i = 1;
-    while i < used {
-        let a = records[i - 1];
-        let b = records[i];
-        if b.number.0 <= a.number.0 {
-            return false;
-        }
-        i += 1;
-    }
-    true
+    pending.is_sorted_by(|a, b| a.number.0 < b.number.0)
 }
 
 // The last of the numbers last taken is 1 or more.
-fn ends_in_one(t: Taken) -> bool
-    requires { t.used ≤ most_actors }
-    ensures { result ≡ ends_in (λ n. leb 1 n.0) (taken_list t) }
+fn ends_in_one(taken: &[Number]) -> bool
+    ensures { result ≡ ends_in (λ n. leb 1 n.0) taken.now }
 {
-    let used = t.used;
-    if used < 1 {
-        return true;
-    }
-    let last = t.last;
-    let n = last[used - 1];
-    1 <= n.0
+    taken.last().is_none_or(|n| 1 <= n.0)
 }
 
-fn durable_formed(d: Durable, actors: usize) -> bool
-    requires { durable_laid d ≡ true }
-    ensures { result ≡ durable_ok base.limits actors (durable_view d) }
+fn durable_formed(d: &Durable, actors: usize) -> bool
+    requires { durable_laid d.now ≡ true }
+    ensures { result ≡ durable_ok base.limits actors (durable_view d.now) }
 {
-    let next = d.next;
-    let p = d.pending;
-    let t = d.taken;
-    if next.0 < 1 {
-        return false;
-    }
-    if !pendings_pass(p, false, next.0, 0, p.used) {
-        return false;
-    }
-    if !ascending(p) {
-        return false;
-    }
-    if actors < t.used {
-        return false;
-    }
-    ends_in_one(t)
+    let pending = d.pending.in_use();
+    let taken = d.taken.in_use();
+    1 <= d.next.0
+        && numbers_ok(d.next.0, pending)
+        && ascending(pending)
+        && taken.len() <= actors
+        && ends_in_one(taken)
 }
 
 // A durable part of one of so many actors.
+#[tactic(auto, unfolding(lists::specs::Lists::every, crate::specs::Views::durable_fine))]
 pub fn durable_ok(d: Durable, actors: usize) -> bool
     ensures { result ≡ durable_fine actors d }
 {
-    if !durable_laid(d) {
-        return false;
-    }
-    durable_formed(d, actors)
+    durable_laid(&d) && durable_formed(&d, actors)
 }
 
-fn nothing_saved(s: Storage) -> bool
-    ensures { result ≡ unsaved s }
+#[tactic(auto, unfolding(lists::specs::Lists::every, crate::specs::Views::blank_durable, crate::specs::Views::unsaved))]
+fn blank_durable(d: &Durable) -> bool
+    ensures { result ≡ blank_durable d.now }
 {
-    match s {
-        Storage::Nothing => true,
-        Storage::Value(_) => false,
-    }
-}
-
-fn blank_durable(d: Durable) -> bool
-    ensures { result ≡ blank_durable d }
-{
-    if d.next.0 != 0 {
-        return false;
-    }
-    if d.pending.used != 0 {
-        return false;
-    }
-    if d.taken.used != 0 {
-        return false;
-    }
-    let s = d.inner;
-    nothing_saved(s)
+    d.next.0 == 0 && d.pending.used == 0 && d.taken.used == 0 && d.inner.is_none()
 }
 
 // What an actor has stored.
 pub fn stored_ok(s: Stored, actors: usize) -> bool
     ensures { result ≡ stored_fine actors s }
 {
-    let d = s.durable;
     if s.some {
-        return durable_ok(d, actors);
+        return durable_ok(s.durable, actors);
     }
-    if !durable_laid(d) {
-        return false;
-    }
-    blank_durable(d)
+    durable_laid(&s.durable) && blank_durable(&s.durable)
 }

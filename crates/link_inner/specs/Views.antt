@@ -1,24 +1,20 @@
 -- The rules that a table holds, and the whole test of a table.
 -- Assumes nothing.
 use Rattle.std.specs.Prelude.{ℕ, Bool, false, not, List, [], ◌∷◌, length, take, drop, replicate, leb, eqb}
-use Rattle.lists.specs.Lists.{choose, all, every, pad}
+use Rattle.lists.specs.Lists.{all, every, pad}
 use Rattle.types.specs.Capacities.{most_commands, most_rules, last_state}
-use Rattle.types.specs.declared.RuleCommand.{RuleCommand}
 use Rattle.types.specs.declared.Slot.{Slot}
 use Rattle.types.specs.declared.Rule.{Rule}
 use Rattle.rules.specs.Inner.{zero_slot}
-use Rattle.rules.specs.WellFormed.{command_ok, zero_command, unused, rule_ok, sound}
+use Rattle.rules.specs.WellFormed.{command_ok, unused, sound}
 use Rattle.link_inner.specs.declared.Table.{Table}
 
 abbrev pub rules_of : Table → List Rule
 rules_of t = take t.used t.rules
 
--- ---- a place for a command in a rule for this event: zero where it is free
-abbrev pub command_passes : Bool → ℕ → RuleCommand → Bool
-command_passes free event c = choose free (zero_command c) (command_ok event c)
-
-abbrev pub slot_passes : Bool → ℕ → Slot → Bool
-slot_passes free event s = command_passes free event s.command
+-- ---- a place for a command that is used, in a rule for this event
+abbrev pub slot_ok : ℕ → Slot → Bool
+slot_ok event s = command_ok event s.command
 
 -- ---- a place for a rule
 -- The numbers are in script range, and low is at most high.
@@ -52,9 +48,6 @@ unfoldable pub blank_rule : Rule → Bool
 blank_rule r = every
     (eqb r.event 0 ∷ eqb r.state 0 ∷ eqb r.low 0 ∷ eqb r.high 0 ∷ not r.touched
     ∷ eqb r.next 0 ∷ eqb r.used 0 ∷ all unused r.commands ∷ [])
-
-abbrev pub rule_passes : Bool → Rule → Bool
-rule_passes free r = choose free (blank_rule r) (rule_ok r)
 
 -- The count fits, the places that are not used are zero, and the rules are sound.
 unfoldable pub table_ok : Table → Bool

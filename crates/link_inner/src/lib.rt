@@ -1,15 +1,14 @@
 // The inner actor's table: rules in an array with a count, and the test of whatever it holds.
 #![tactic(auto)]
 
-ghost use Rattle.std.specs.Prelude.{◌≡◌, not, ◌&&◌, ◌||◌, ◌≤◌, take, drop, leb, eqb};
-ghost use Rattle.lists.specs.Lists.{all};
-ghost use Rattle.types.specs.Capacities.{most_commands, most_rules};
-ghost use Rattle.rules.specs.WellFormed.{zero_command};
-ghost use Rattle.link_inner.specs.Views.{command_passes, slot_passes, ranges, zero_rule, zero_table, blank_rule, rule_passes, table_ok};
+ghost use Rattle.std.specs.Prelude.{◌≡◌, not, ◌&&◌, ◌||◌, take, drop, leb, eqb};
+ghost use Rattle.std.specs.List.{list_all};
+ghost use Rattle.rules.specs.WellFormed.{command_ok, unused, rule_ok};
+ghost use Rattle.link_inner.specs.Views.{rules_of, slot_ok, ranges, zero_rule, zero_table, blank_rule, table_ok};
 
 use types::{Id, LAST_STATE, MOST_COMMANDS, MOST_RULES, NETWORK, Rule, RuleCommand, Slot};
 
-// Places from the used count on hold the zero rule.
+// A fixed array with its used count, as there is no heap. Places from the count on hold the zero rule.
 #[derive(Clone, Copy)]
 pub struct Table {
     pub rules: [Rule; MOST_RULES],
@@ -46,200 +45,119 @@ pub fn zero_table() -> Table
     }
 }
 
-// "The source" in message rules only, and its destination is zero.
+// "The source" in message rules only, and its destination is zero. The event is a number, as in `Rule`.
 fn source_ok(event: u8, flag: bool, dst: Id) -> bool
     ensures { result ≡ (not flag || (eqb event 2 && eqb dst.0 0)) }
 {
-    if !flag {
-        return true;
-    }
-    if event != 2 {
-        return false;
-    }
-    dst.0 == 0
+    !flag || (event == 2 && dst.0 == 0)
 }
 
 // What is echoed is zero in the rule.
 fn echo_ok(echo: bool, value: u32) -> bool
     ensures { result ≡ (not echo || eqb value 0) }
 {
-    if !echo {
-        return true;
-    }
-    value == 0
+    !echo || value == 0
 }
 
-// A command that is not used is all zero.
-fn zero_command(c: RuleCommand) -> bool
-    ensures { result ≡ zero_command c }
+// A command of a rule for this event.
+#[tactic(auto, unfolding(rules::specs::WellFormed::command_ok))]
+fn command_ok(event: u8, c: RuleCommand) -> bool
+    ensures { result ≡ command_ok event c }
 {
     match c {
-        RuleCommand::SetTimer(t) => t == 0,
-        RuleCommand::CancelTimer(_) => false,
-        RuleCommand::Send(_, _, _, _) => false,
-        RuleCommand::Save(_, _) => false,
-    }
-}
-
-// A place for a command in a rule for this event: zero where it is free.
-fn command_passes(free: bool, event: u8, c: RuleCommand) -> bool
-    ensures { result ≡ command_passes free event c }
-{
-    if free {
-        return zero_command(c);
-    }
-    match c {
-        RuleCommand::SetTimer(t) => t < NETWORK,
-        RuleCommand::CancelTimer(t) => t < NETWORK,
+        RuleCommand::SetTimer(t) | RuleCommand::CancelTimer(t) => t < NETWORK,
         RuleCommand::Send(to_source, dst, echo, payload) => {
-            if !source_ok(event, to_source, dst) {
-                return false;
-            }
-            echo_ok(echo, payload.0)
+            source_ok(event, to_source, dst) && echo_ok(echo, payload.0)
         }
         RuleCommand::Save(echo, v) => echo_ok(echo, v),
     }
 }
 
-// The places from one up to another: free, or used.
-fn slots_pass(r: Rule, free: bool, from: usize, to: usize) -> bool
-    requires { to ≤ most_commands }
-    ensures { result ≡ all (slot_passes free r.event) (drop from (take to r.commands)) }
+// A place for a command that is not used is all zero.
+#[tactic(auto, unfolding(rules::specs::WellFormed::unused, rules::specs::WellFormed::zero_command))]
+fn is_unused(s: &Slot) -> bool
+    ensures { result ≡ unused s.now }
 {
-    let cs = r.commands;
-    let event = r.event;
-    let mut i = from;
-    while i < to {
-        let s = cs[i];
-        let k = s.command;
-        if !command_passes(free, event, k) {
-            return false;
-        }
-        i += 1;
-    }
-    true
+    matches!(s.command, RuleCommand::SetTimer(0))
 }
 
 // The numbers are in script range, and low is at most high.
-fn ranges_ok(r: Rule) -> bool
-    ensures { result ≡ ranges r }
+#[tactic(auto, unfolding(crate::specs::Views::ranges, lists::specs::Lists::every))]
+fn ranges_ok(r: &Rule) -> bool
+    ensures { result ≡ ranges r.now }
 {
-    if 3 < r.event {
-        return false;
-    }
-    if LAST_STATE < r.state {
-        return false;
-    }
-    if LAST_STATE < r.next {
-        return false;
-    }
-    if MOST_COMMANDS < r.used {
-        return false;
-    }
-    r.low <= r.high
+    r.event <= 3
+        && r.state <= LAST_STATE
+        && r.next <= LAST_STATE
+        && r.used <= MOST_COMMANDS
+        && r.low <= r.high
 }
 
 // Start rules have state 0 and touched.
-fn start_ok(r: Rule) -> bool
-    ensures { result ≡ (leb 2 r.event || (eqb r.state 0 && r.touched)) }
+fn start_ok(r: &Rule) -> bool
+    ensures { result ≡ (leb 2 r.now.event || (eqb r.now.state 0 && r.now.touched)) }
 {
-    if 2 <= r.event {
-        return true;
-    }
-    if r.state != 0 {
-        return false;
-    }
-    r.touched
+    2 <= r.event || (r.state == 0 && r.touched)
 }
 
 // An untouched rule keeps its state.
-fn keeps_ok(r: Rule) -> bool
-    ensures { result ≡ (r.touched || eqb r.next r.state) }
+fn keeps_ok(r: &Rule) -> bool
+    ensures { result ≡ (r.now.touched || eqb r.now.next r.now.state) }
 {
-    if r.touched {
-        return true;
-    }
-    r.next == r.state
+    r.touched || r.next == r.state
 }
 
-// Every field is zero.
-fn blank_rule(r: Rule) -> bool
+// The used places of a rule have commands for its event.
+fn used_ok(r: &Rule) -> bool
+    ensures { result ≡ list_all (slot_ok r.now.event) (take r.now.used r.now.commands) }
+{
+    let event = r.event;
+    r.commands
+        .iter()
+        .take(r.used)
+        .all(|s| command_ok(event, s.command))
+}
+
+// Its other places are not used.
+fn rest_unused(r: &Rule) -> bool
+    ensures { result ≡ list_all unused (drop r.now.used r.now.commands) }
+{
+    r.commands.iter().skip(r.used).all(is_unused)
+}
+
+// A place for a rule that is used.
+#[tactic(auto, using(crate::proofs::Tables::rule_parts), unfolding(lists::specs::Lists::every))]
+fn rule_ok(r: &Rule) -> bool
+    ensures { result ≡ rule_ok r.now }
+{
+    ranges_ok(r) && start_ok(r) && keeps_ok(r) && used_ok(r) && rest_unused(r)
+}
+
+// A place for a rule that is not used is all zero. By value: behind a reference the proof is not told how many commands there are.
+fn is_blank(r: Rule) -> bool
     ensures { result ≡ blank_rule r }
 {
-    if r.event != 0 {
-        return false;
-    }
-    if r.state != 0 {
-        return false;
-    }
-    if r.low != 0 {
-        return false;
-    }
-    if r.high != 0 {
-        return false;
-    }
-    if r.touched {
-        return false;
-    }
-    if r.next != 0 {
-        return false;
-    }
-    if r.used != 0 {
-        return false;
-    }
-    slots_pass(r, true, 0, MOST_COMMANDS)
+    r == zero_rule()
 }
 
-// A place for a rule: zero where it is free.
-fn rule_passes(free: bool, r: Rule) -> bool
-    ensures { result ≡ rule_passes free r }
+// The places of a table that are not used are blank.
+fn rest_blank(t: &Table) -> bool
+    ensures { result ≡ list_all blank_rule (drop t.now.used t.now.rules) }
 {
-    if free {
-        return blank_rule(r);
-    }
-    if !ranges_ok(r) {
-        return false;
-    }
-    if !start_ok(r) {
-        return false;
-    }
-    if !keeps_ok(r) {
-        return false;
-    }
-    let used = r.used;
-    if !slots_pass(r, false, 0, used) {
-        return false;
-    }
-    slots_pass(r, true, used, MOST_COMMANDS)
+    t.rules.iter().skip(t.used).all(|r| is_blank(*r))
 }
 
-// The places from one up to another: free, or used.
-fn rules_pass(t: Table, free: bool, from: usize, to: usize) -> bool
-    requires { to ≤ most_rules }
-    ensures { result ≡ all (rule_passes free) (drop from (take to t.rules)) }
+// The others have rules that are sound.
+fn rules_ok(t: &Table) -> bool
+    ensures { result ≡ list_all rule_ok (rules_of t.now) }
 {
-    let rules = t.rules;
-    let mut i = from;
-    while i < to {
-        let here = rules[i];
-        if !rule_passes(free, here) {
-            return false;
-        }
-        i += 1;
-    }
-    true
+    t.rules.iter().take(t.used).all(rule_ok)
 }
 
 // Whatever the table holds.
+#[tactic(auto, using(crate::proofs::Tables::table_parts))]
 pub fn sound_table(t: Table) -> bool
     ensures { result ≡ table_ok t }
 {
-    let used = t.used;
-    if MOST_RULES < used {
-        return false;
-    }
-    if !rules_pass(t, true, used, MOST_RULES) {
-        return false;
-    }
-    rules_pass(t, false, 0, used)
+    t.used <= MOST_RULES && rest_blank(&t) && rules_ok(&t)
 }

@@ -11,8 +11,7 @@ use Rattle.lists.proofs.Places.{length-pad, get_or-pad}
 use Rattle.types.specs.Capacities.{most_pending, most_actors}
 use Rattle.types.specs.declared.Number.{Number}
 use Rattle.types.specs.declared.Pending.{Pending}
-use Rattle.types.specs.declared.Storage.{Storage}
-use Rattle.types.specs.declared.Storage.TheVariants.{Nothing, Value}
+use Rattle.std.specs.Prelude.{Option, Some, None}
 use Rattle.rules.specs.Link as rules
 use Rattle.link_rows.specs.Rows.{row_size, pending_in, number_in, storage_in, durable_in, Sendable, HeadLaid}
 use Rattle.link_layout.specs.Rows.{record_of, no_record, records_of, word_of, saves_of, value_of, row_with}
@@ -27,10 +26,10 @@ numbers-back : (l : List Number) → map number_in (map word_of l) ≡ l
 numbers-back [] = refl
 numbers-back (n ∷ l) = ap (λ (r : List Number). n ∷ r) (numbers-back l)
 
-storage-back : (s : Storage) → storage_in (saves_of s) (value_of s) ≡ s
+storage-back : (s : Option ℕ) → storage_in (saves_of s) (value_of s) ≡ s
 unfolding storage_in
-storage-back Nothing = refl
-storage-back (Value v) = refl
+storage-back None = refl
+storage-back (Some v) = refl
 
 -- Of an array that holds a list, as many places as the list has elements.
 module _ {A B C : Type 0} (f : A → B) (g : B → C) (n : ℕ) (z : B) where
@@ -62,9 +61,9 @@ module _ (d : rules.Durable) (five six seven : ℕ) (h : length d.taken ≤ most
       let e : 8 + i ≡ ℕ.suc (ℕ.suc (ℕ.suc (ℕ.suc (ℕ.suc (ℕ.suc (ℕ.suc (ℕ.suc i))))))) = omega arith in
       rw e (get_or-pad 0 (row_size - 8) i (map word_of d.taken) ∙ get_or-eq_default (map word_of d.taken) 0 {n = i} (omega arith))
 
-saves-small : (s : Storage) → saves_of s ≤ 1
-saves-small Nothing = omega arith
-saves-small (Value v) = omega arith
+saves-small : (s : Option ℕ) → saves_of s ≤ 1
+saves-small None = omega arith
+saves-small (Some v) = omega arith
 
 pub row-head : (d : rules.Durable) (five six seven : ℕ) (p : List (List ℕ)) → Sendable p (length d.pending) → value_of d.inner < 4294967296
     → HeadLaid (row_with d five six seven) p

@@ -2,66 +2,68 @@
 -- Assumes nothing.
 use Prim.Native.Nat.{ℕ, zero, suc, ◌+◌, ◌-◌, ◌≤◌, ◌<◌}
 use native.Mathlib.Omega.{arith}
-use mathlib.Core.Path.{◌≡◌, refl, sym, ap, ◌∙◌}
-use mathlib.Core.Bool.{true}
-use mathlib.Core.List.{List, ◌∷◌, map}
-use lib.ListN.{length, take, drop, get_or, set, length-map, length-take}
-use lib.Seq.{length-take-le}
-use borrow.Author.Tests.{leb-true}
+use mathlib.Core.Path.{◌≡◌, refl, sym, ap, ap₂, ◌∙◌}
+use mathlib.Core.Bool.{true, not}
+use lib.Dec.{eqb}
+use borrow.Author.Tests.{ne_eqb}
+use Rattle.std.specs.Bool.{then_some}
+use mathlib.Core.List.{List, [], ◌∷◌, ◌++◌, map}
+use lib.ListN.{length, take, drop, get_or, set, replicate, length-map}
+use Rattle.std.proofs.lemmas.List.{map-append, replicate-append-replicate}
+use Rattle.std.proofs.Common.{append_assoc}
+use lib.Seq.{length-take-le, take_all}
+use Rattle.link_durable.specs.declared.Filled.{Filled}
 use Rattle.lists.specs.Lists.{pad}
-use Rattle.lists.proofs.Members.{every-cons}
-use Rattle.lists.proofs.Places.{fill_more, length-pad}
 use Rattle.types.specs.Capacities.{most_pending, most_actors}
-use Rattle.types.specs.declared.Number.{Number}
-use Rattle.types.specs.declared.Pending.{Pending}
-use Rattle.types.specs.declared.Storage.{Storage}
-use Rattle.types.specs.declared.Storage.TheVariants.{Nothing, Value}
-use Rattle.rules.specs.Link as rules
-use Rattle.link_durable.specs.declared.Pendings.{Pendings}
-use Rattle.link_durable.specs.declared.Taken.{Taken}
+use Rattle.std.specs.Prelude.{Option, Some, None}
 use Rattle.link_durable.specs.declared.Durable.{Durable}
-use Rattle.link_durable.specs.Views.{zero_pending, pendings_of, taken_list, taken_as, durable_view, durable_as, pendings_laid, taken_laid, durable_laid}
-use Rattle.link_durable.proofs.Containers.{durable-parts}
+use Rattle.link_durable.specs.Views.{filled_of, Pendings, Taken, pendings_of, taken_list, taken_as, durable_view, durable_as, durable_laid}
+use Rattle.link_durable.proofs.Containers.{counts}
 use Rattle.link_rows.specs.Rows.{row_size, pending_in, number_in, storage_in, durable_in}
 use Rattle.link_layout.specs.Rows.{word_of, taken_of, saves_of, value_of, row_of}
 
--- One number more, past the first eight places.
-pub fill-after : (es : List Number) (d : Number) (i : ℕ) (r : List ℕ) → i < most_actors → i < length es → r ≡ taken_of (take i es)
-    → set r (8 + i) (get_or es i d).0 ≡ taken_of (take (i + 1) es)
-fill-after es d i r h k q =
-    let e : 8 + i ≡ suc (suc (suc (suc (suc (suc (suc (suc i))))))) = omega arith in
-    rw (q, e) (ap (λ (l : List ℕ). 0 ∷ 0 ∷ 0 ∷ 0 ∷ 0 ∷ 0 ∷ 0 ∷ 0 ∷ l)
-    (fill_more word_of d es i k (row_size - 8) 0 _ _ (omega arith) refl refl))
+-- An array of which each place is what f makes of the same place of another.
+pub maps-each : {A B : Type 0} (f : A → B) (xs : List A) (ys : List B) → length ys ≡ length xs
+    → ((i : ℕ) (d : A) (e : B) → i < length xs → get_or ys i e ≡ f (get_or xs i d)) → ys ≡ map f xs
+maps-each f [] [] n h = refl
+maps-each f [] (y ∷ ys) n h = absurd (omega arith)
+maps-each f (x ∷ xs) [] n h = absurd (omega arith)
+maps-each {B = B} f (x ∷ xs) (y ∷ ys) n h =
+    ap₂ (λ (a : B) (l : List B). a ∷ l) (h 0 x y (omega arith)) (maps-each f xs ys (omega arith) (λ i d e b. h (suc i) d e (omega arith)))
 
-pub filled : {A B : Type 0} (f : A → B) (n : ℕ) (z : B) (es : List A) (i : ℕ) → i ≤ n → length (pad n z (map f (take i es))) ≡ n
-filled f n z es i h = let a = length-map (take i es) f in let b = length-take i es in length-pad n z (map f (take i es)) (omega arith)
+map-fill : {A B : Type 0} (f : A → B) (k : ℕ) (z : A) (w : B) → f z ≡ w → map f (replicate k z) ≡ replicate k w
+map-fill f zero z w e = refl
+map-fill {B = B} f (suc k) z w e = ap₂ (λ (a : B) (l : List B). a ∷ l) e (map-fill f k z w e)
 
--- ---- the structs that are read off
-mapped : {A B : Type 0} (f : A → B) (es : List A) (n : ℕ) → n ≤ length es → n ≡ length (map f (take n es))
-mapped f es n h = sym (length-map (take n es) f ∙ length-take-le n es h)
+pub map-pad : {A B : Type 0} (f : A → B) (n : ℕ) (z : A) (w : B) (l : List A) → f z ≡ w → map f (pad n z l) ≡ pad n w (map f l)
+unfolding pad
+map-pad {B = B} f n z w l e =
+    map-append f l (replicate (n - length l) z) ∙ ap (λ (r : List B). map f l ++ r) (map-fill f (n - length l) z w e)
+    ∙ ap (λ (k : ℕ). map f l ++ replicate (n - k) w) (sym (length-map l f))
 
-pub pendings-read : (es : List Pending) (p : List (List ℕ)) (n : ℕ) → n ≤ length p → es ≡ pad most_pending zero_pending (map pending_in (take n p))
-    → ◌≡◌ {A = Pendings} (record { records = es; used = n }) (pendings_of (map pending_in (take n p)))
-pendings-read es p n h e = let f = mapped pending_in p n h in λ j. record { records = e j; used = f j }
+-- An array of n places, and m places more.
+pub pad-more : {A : Type 0} (n m : ℕ) (z : A) (l : List A) → length l ≤ n → pad n z l ++ replicate m z ≡ pad (n + m) z l
+unfolding pad
+pad-more {A = A} n m z l h =
+    rw append_assoc
+    (ap (λ (r : List A). l ++ r) (replicate-append-replicate (n - length l) m z) ∙ ap (λ (k : ℕ). l ++ replicate k z) (omega arith))
 
-pub taken-read : (es : List Number) (l : List ℕ) (n : ℕ) → n ≤ length l → es ≡ pad most_actors rules.untaken (map number_in (take n l))
-    → ◌≡◌ {A = Taken} (record { last = es; used = n }) (taken_as (map number_in (take n l)))
-taken-read es l n h e = let f = mapped number_in l n h in λ j. record { last = e j; used = f j }
+-- ---- what is read off a slice, once all of it was read
+pub read-whole : {A B : Type 0} (n : ℕ) (z : B) (r : A → B) (items : List A) (places : List B) (i : ℕ) → length items ≤ i
+    → places ≡ pad n z (map r (take i items)) → ◌≡◌ {A = Filled B n} (record { places = places; used = length items }) (filled_of n z (map r items))
+read-whole {A = A} n z r items places i h e =
+    let p = e ∙ ap (λ (l : List A). pad n z (map r l)) (take_all i items h) in
+    let u = sym (length-map items r) in
+    λ j. record { places = p j; used = u j }
 
-pub saved : (n v : ℕ) → (n ≡ 0 → ⊥) → Value v ≡ storage_in n v
+-- ---- what is saved
+pub saved : (n v : ℕ) → then_some (not (eqb n 0)) v ≡ storage_in n v
 unfolding storage_in
-saved zero v h = absurd (h refl)
-saved (suc n) v h = refl
-
--- The counts of a struct that is laid out.
-pub counts : (d : Durable) → durable_laid d ≡ true → (d.pending.used ≤ most_pending) × (d.taken.used ≤ most_actors)
-unfolding pendings_laid taken_laid
-counts d e =
-    let h = durable-parts d e in
-    (leb-true d.pending.used most_pending (every-cons _ _ h.0).0, leb-true d.taken.used most_actors (every-cons _ _ h.1).0)
+saved zero v = refl
+saved (suc n) v = rw (ne_eqb (suc n) 0 (λ e. omega arith))
 
 -- ---- the row
-module _ (d : Durable) (n : length d.pending.records ≡ most_pending) (m : length d.taken.last ≡ most_actors) (laid : durable_laid d ≡ true)
+module _ (d : Durable) (n : length d.pending.places ≡ most_pending) (m : length d.taken.places ≡ most_actors) (laid : durable_laid d ≡ true)
     (r : List ℕ) (e : r ≡ taken_of (taken_list d.taken)) where
   abbrev numbers : List ℕ
   numbers = pad (row_size - 8) 0 (map word_of (taken_list d.taken))
@@ -70,26 +72,26 @@ module _ (d : Durable) (n : length d.pending.records ≡ most_pending) (m : leng
   begun = set (set (set r 0 d.next.0) 1 d.pending.used) 4 d.taken.used
 
   -- The words up to place 4, of a storage that the struct holds.
-  begun-is : (s : Storage) → d.inner ≡ s
+  begun-is : (s : Option ℕ) → d.inner ≡ s
       → d.next.0 ∷ d.pending.used ∷ saves_of s ∷ value_of s ∷ d.taken.used ∷ 0 ∷ 0 ∷ 0 ∷ numbers
       ≡ row_of (durable_view d)
   begun-is s f =
       let h = counts d laid in
-      let e1 = sym (length-take-le d.pending.used d.pending.records (omega arith)) in
-      let e4 = sym (length-take-le d.taken.used d.taken.last (omega arith)) in
+      let e1 = sym (length-take-le d.pending.used d.pending.places (omega arith)) in
+      let e4 = sym (length-take-le d.taken.used d.taken.places (omega arith)) in
       λ j. d.next.0 ∷ e1 j ∷ saves_of (sym f j) ∷ value_of (sym f j) ∷ e4 j ∷ 0 ∷ 0 ∷ 0 ∷ numbers
 
-  pub row-nothing : d.inner ≡ Nothing → (begun ≡ row_of (durable_view d)) × (value_of d.inner < 4294967296)
+  pub row-nothing : d.inner ≡ None → (begun ≡ row_of (durable_view d)) × (value_of d.inner < 4294967296)
   row-nothing f =
-      (ap (λ (l : List ℕ). set (set (set l 0 d.next.0) 1 d.pending.used) 4 d.taken.used) e ∙ begun-is Nothing f, rw f (omega arith))
+      (ap (λ (l : List ℕ). set (set (set l 0 d.next.0) 1 d.pending.used) 4 d.taken.used) e ∙ begun-is None f, rw f (omega arith))
 
-  pub row-value : (v : ℕ) → d.inner ≡ Value v → v < 4294967296
+  pub row-value : (v : ℕ) → d.inner ≡ Some v → v < 4294967296
       → (set (set begun 2 1) 3 v ≡ row_of (durable_view d)) × (value_of d.inner < 4294967296)
   row-value v f h =
-      (ap (λ (l : List ℕ). set (set (set (set (set l 0 d.next.0) 1 d.pending.used) 4 d.taken.used) 2 1) 3 v) e ∙ begun-is (Value v) f, rw f h)
+      (ap (λ (l : List ℕ). set (set (set (set (set l 0 d.next.0) 1 d.pending.used) 4 d.taken.used) 2 1) 3 v) e ∙ begun-is (Some v) f, rw f h)
 
 -- ---- the durable part that is read off
-pub durable-read : (w : List ℕ) (p : List (List ℕ)) (ps : Pendings) (ts : Taken) (s : Storage) → ps ≡ pendings_of (map pending_in (take (get_or w 1 0) p))
+pub durable-read : (w : List ℕ) (p : List (List ℕ)) (ps : Pendings) (ts : Taken) (s : Option ℕ) → ps ≡ pendings_of (map pending_in (take (get_or w 1 0) p))
     → ts ≡ taken_as (map number_in (take (get_or w 4 0) (drop 8 w))) → s ≡ storage_in (get_or w 2 0) (get_or w 3 0)
     → ◌≡◌ {A = Durable} (record { next = record { 0 = get_or w 0 0 }; pending = ps; taken = ts; inner = s }) (durable_as (durable_in w p))
 unfolding durable_in

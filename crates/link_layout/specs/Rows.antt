@@ -1,12 +1,10 @@
 -- The rows that a durable part is laid out as: what it does not use is zero. And rows that one can be read off.
 -- Assumes nothing.
-use Rattle.std.specs.Prelude.{ℕ, ◌-◌, ◌≤◌, ◌≡◌, List, [], ◌∷◌, map, length, get_or}
+use Rattle.std.specs.Prelude.{ℕ, ◌-◌, ◌≤◌, ◌≡◌, List, [], ◌∷◌, map, length, get_or, Option, Some, None}
 use Rattle.lists.specs.Lists.{pad}
 use Rattle.types.specs.Capacities.{most_pending, most_actors}
 use Rattle.types.specs.declared.Number.{Number}
 use Rattle.types.specs.declared.Pending.{Pending}
-use Rattle.types.specs.declared.Storage.{Storage}
-use Rattle.types.specs.declared.Storage.TheVariants.{Nothing, Value}
 use Rattle.rules.specs.Link as rules
 use Rattle.link_rows.specs.Rows.{row_size, HeadLaid}
 
@@ -28,13 +26,13 @@ word_of n = n.0
 abbrev pub taken_of : List Number → List ℕ
 taken_of l = 0 ∷ 0 ∷ 0 ∷ 0 ∷ 0 ∷ 0 ∷ 0 ∷ 0 ∷ pad (row_size - 8) 0 (map word_of l)
 
-abbrev pub saves_of : Storage → ℕ
-saves_of Nothing = 0
-saves_of (Value v) = 1
+abbrev pub saves_of : Option ℕ → ℕ
+saves_of None = 0
+saves_of (Some v) = 1
 
-abbrev pub value_of : Storage → ℕ
-value_of Nothing = 0
-value_of (Value v) = v
+abbrev pub value_of : Option ℕ → ℕ
+value_of None = 0
+value_of (Some v) = v
 
 -- With what stands at places 5, 6 and 7, which the durable part does not read.
 abbrev pub row_with : rules.Durable → ℕ → ℕ → ℕ → List ℕ

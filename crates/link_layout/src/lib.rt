@@ -2,16 +2,18 @@
 #![tactic(auto)]
 
 ghost use Rattle.std.specs.Prelude.{◌≡◌, true, map, ◌≤◌, ◌<◌, length, take, drop};
+ghost use Rattle.std.specs.List.{Contains};
 ghost use Rattle.types.specs.Capacities.{most_pending, most_actors};
-ghost use Rattle.link_durable.specs.Views.{pending_list, pendings_of, taken_list, taken_as, durable_view, durable_as, durable_laid};
+ghost use Rattle.link_durable.specs.Views.{filled_of, pending_list, pendings_of, taken_list, taken_as, taken_laid, durable_view, durable_as, durable_laid};
 ghost use Rattle.link_rows.specs.Rows.{row_size, pending_in, number_in, storage_in, durable_in, Sendable};
 ghost use Rattle.link_layout.specs.Rows.{record_of, records_of, taken_of, row_of, value_of, Readable};
 
-use link_durable::{Durable, Pendings, Taken};
+use link_durable::{Durable, Filled, Pendings, Taken};
 use link_rows::{RECORD, ROW};
-use types::{Id, MOST_ACTORS, MOST_PENDING, Number, Payload, Pending, Storage};
+use types::{Id, MOST_ACTORS, MOST_PENDING, Number, Payload, Pending};
 
 // ---- laid out
+// A function and no From: neither the record nor the row is a type of this crate, so there can be no impl for them here.
 fn record_of(q: Pending) -> [u64; RECORD]
     ensures { (result ≡ record_of q) × (q.dst.0 < 256) × (q.payload.0 < 4294967296) }
 {
@@ -23,33 +25,17 @@ pub fn pending_rows(d: Durable) -> [[u64; RECORD]; MOST_PENDING]
     requires { durable_laid d ≡ true }
     ensures { (result ≡ records_of (durable_view d)) × Sendable result (length (pending_list d.pending)) }
 {
-    let p = d.pending;
-    let records = p.records;
-    let used = p.used;
-    let mut rows = [[0u64; RECORD]; MOST_PENDING];
-    let mut i = 0;
-    while i < used {
-        let q = records[i];
-        rows[i] = record_of(q);
-        i += 1;
-    }
-    rows
+    d.pending.places.map(record_of)
 }
 
 // The numbers last taken, with nothing in front of them.
 fn taken_row(t: Taken) -> [u64; ROW]
-    requires { t.used ≤ most_actors }
+    requires { taken_laid t ≡ true }
     ensures { result ≡ taken_of (taken_list t) }
 {
-    let last = t.last;
-    let used = t.used;
-    let mut row = [0u64; ROW];
-    let mut i = 0;
-    while i < used {
-        let n = last[i];
-        row[8 + i] = n.0;
-        i += 1;
-    }
+    let numbers = t.places.map(|n| n.0);
+    let mut row = [0; ROW];
+    row[8..8 + MOST_ACTORS].copy_from_slice(&numbers);
     row
 }
 
@@ -58,21 +44,15 @@ pub fn durable_row(d: Durable) -> [u64; ROW]
     requires { durable_laid d ≡ true }
     ensures { (result ≡ row_of (durable_view d)) × (value_of d.inner < 4294967296) }
 {
-    let p = d.pending;
-    let t = d.taken;
-    let s = d.inner;
-    let mut row = taken_row(t);
+    let mut row = taken_row(d.taken);
     row[0] = d.next.0;
-    row[1] = p.used as u64;
-    row[4] = t.used as u64;
-    match s {
-        Storage::Nothing => row,
-        Storage::Value(v) => {
-            row[2] = 1;
-            row[3] = v as u64;
-            row
-        }
+    row[1] = d.pending.used as u64;
+    row[4] = d.taken.used as u64;
+    if let Some(v) = d.inner {
+        row[2] = 1;
+        row[3] = v as u64;
     }
+    row
 }
 
 // ---- and back
@@ -87,47 +67,47 @@ fn pending_of(number: u64, dst: u64, payload: u64) -> Pending
     }
 }
 
-fn pendings_of(rows: &[[u64; RECORD]], used: usize) -> Pendings
-    requires { (used ≤ most_pending) × (used ≤ length rows.now) × Sendable rows.now used }
-    ensures { result ≡ pendings_of (map pending_in (take used rows.now)) }
+// What is read off each item of a slice, and zero in the places that are left.
+fn read_in<S, T: Copy, const N: usize, F: FnMut(&S) -> T>(
+    zero: T,
+    items: &[S],
+    mut read: F,
+) -> Filled<T, N>
+    requires room { length items.now ≤ N }
+    requires callable { (f : F) (x : _) → Contains items.now x.now → F.pre f x }
+    ensures { (r : S → T) → ((f g : F) (x : _) (y : T) → F.step f x y g → (g ≡ f) × (y ≡ r x.now))
+        → result ≡ filled_of N zero (map r items.now) }
+{
+    let mut places = [zero; N];
+    for (i, item) in items.iter().enumerate() {
+        places[i] = read(item);
+    }
+    Filled {
+        places,
+        used: items.len(),
+    }
+}
+
+fn pendings_of(rows: &[[u64; RECORD]]) -> Pendings
+    requires { (length rows.now ≤ most_pending) × Sendable rows.now (length rows.now) }
+    ensures { result ≡ pendings_of (map pending_in rows.now) }
 {
     let z = pending_of(0, 0, 0);
-    let mut records = [z; MOST_PENDING];
-    let mut i = 0;
-    while i < used {
-        records[i] = pending_of(rows[i][0], rows[i][1], rows[i][2]);
-        i += 1;
-    }
-    Pendings {
-        records: records,
-        used: used,
-    }
+    read_in(z, rows, |row| pending_of(row[0], row[1], row[2]))
 }
 
-fn taken_of(row: &[u64], used: usize) -> Taken
-    requires { (length row.now ≡ row_size) × (used ≤ most_actors) }
-    ensures { result ≡ taken_as (map number_in (take used (drop 8 row.now))) }
+fn taken_of(words: &[u64]) -> Taken
+    requires { length words.now ≤ most_actors }
+    ensures { result ≡ taken_as (map number_in words.now) }
 {
-    let mut last = [Number(0); MOST_ACTORS];
-    let mut i = 0;
-    while i < used {
-        last[i] = Number(row[8 + i]);
-        i += 1;
-    }
-    Taken {
-        last: last,
-        used: used,
-    }
+    read_in(Number(0), words, |word| Number(*word))
 }
 
-fn storage_of(saves: u64, value: u64) -> Storage
+fn storage_of(saves: u64, value: u64) -> Option<u32>
     requires { value < 4294967296 }
     ensures { result ≡ storage_in saves value }
 {
-    if saves == 0 {
-        return Storage::Nothing;
-    }
-    Storage::Value(value as u32)
+    (saves != 0).then_some(value as u32)
 }
 
 // The durable part that rows hold. Its places that are not used are zero, whatever stands in the rows there.
@@ -135,13 +115,10 @@ pub fn durable_of(row: &[u64], rows: &[[u64; RECORD]]) -> Durable
     requires { Readable row.now rows.now }
     ensures { result ≡ durable_as (durable_in row.now rows.now) }
 {
-    let p = pendings_of(rows, row[1] as usize);
-    let t = taken_of(row, row[4] as usize);
-    let s = storage_of(row[2], row[3]);
     Durable {
         next: Number(row[0]),
-        pending: p,
-        taken: t,
-        inner: s,
+        pending: pendings_of(&rows[..row[1] as usize]),
+        taken: taken_of(&row[8..8 + row[4] as usize]),
+        inner: storage_of(row[2], row[3]),
     }
 }

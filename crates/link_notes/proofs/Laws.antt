@@ -4,6 +4,7 @@ use Prim.Native.Nat.{ℕ, ◌+◌}
 use native.Mathlib.Omega.{arith}
 use mathlib.Core.Path.{◌≡◌, refl, sym, ap, ◌∙◌}
 use mathlib.Core.List.{List, [], ◌∷◌}
+use mathlib.Core.Logic.{◌⊎◌, inl, inr}
 use lib.ListN.{drop, get_or}
 use Rattle.link_direct.proofs.Laws.{sends-cons}
 use Rattle.types.specs.declared.Id.{Id}
@@ -23,13 +24,11 @@ noted-cons (inner.Save v) os d = refl
 noted-cons (inner.Send r p) os d = refl
 
 module _ (x : InnerCommand) (w : List ℕ) (p : List (List ℕ)) where
-  pub note-set : (t : ℕ) → x ≡ inner.SetTimer t → Noted (x ∷ []) w p w p
+  -- A timer is set or cancelled.
+  pub note-timer : ((t : ℕ) × (x ≡ inner.SetTimer t)) ⊎ ((t : ℕ) × (x ≡ inner.CancelTimer t)) → Noted (x ∷ []) w p w p
   unfolding noted sends
-  note-set t e = rw e (record { durable = refl; places = omega arith; numbers = omega arith; after = refl; head = λ fit. fit })
-
-  pub note-cancel : (t : ℕ) → x ≡ inner.CancelTimer t → Noted (x ∷ []) w p w p
-  unfolding noted sends
-  note-cancel t e = rw e (record { durable = refl; places = omega arith; numbers = omega arith; after = refl; head = λ fit. fit })
+  note-timer (inl (t, e)) = rw e (record { durable = refl; places = omega arith; numbers = omega arith; after = refl; head = λ fit. fit })
+  note-timer (inr (t, e)) = rw e (record { durable = refl; places = omega arith; numbers = omega arith; after = refl; head = λ fit. fit })
 
   pub note-save : (v : ℕ) → x ≡ inner.Save v → (w' : List ℕ) → Turned (with_inner v) w p w' p → get_or w' 1 0 ≡ get_or w 1 0
       → Noted (x ∷ []) w p w' p

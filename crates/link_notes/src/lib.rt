@@ -19,8 +19,7 @@ fn note_one(live: &mut [u64], pend: &mut [[u64; RECORD]], x: InnerCommand)
     ensures { Noted (x ∷ []) live.old pend.old live.new pend.new }
 {
     match x {
-        InnerCommand::SetTimer(_) => {}
-        InnerCommand::CancelTimer(_) => {}
+        InnerCommand::SetTimer(_) | InnerCommand::CancelTimer(_) => {}
         InnerCommand::Save(v) => save_value(live, v as u64),
         InnerCommand::Send(d, p) => post(live, pend, d.0 as u64, p.0 as u64),
     }
@@ -34,11 +33,8 @@ pub fn note(live: &mut [u64], pend: &mut [[u64; RECORD]], row: &[u64], source: I
     ensures { Noted (orders row.now source value)
         live.old pend.old live.new pend.new }
 {
-    let n = row[5] as usize;
-    let mut i = 0;
-    while i < n {
+    for i in 0..row[5] as usize {
         let x = command_at(row, i, source, value);
         note_one(live, pend, x);
-        i += 1;
     }
 }

@@ -6,8 +6,11 @@ use native.Mathlib.Numerals.{add-one}
 use mathlib.Core.Path.{◌≡◌, refl, sym, ap, ◌∙◌}
 use mathlib.Core.List.{List, [], ◌∷◌, ◌++◌, map}
 use lib.ListN.{length, get_or, set, take, drop, length-set, length-map}
-use lib.Dec.{eqb}
-use mathlib.Core.Bool.{not}
+use lib.Dec.{eqb, ltb}
+use borrow.Author.Tests.{ltb-true, ltb-false}
+use mathlib.Core.Bool.{Bool, true, false, not, cond}
+use Rattle.std.specs.Prelude.{Option, Some, None, MatchOption}
+use Rattle.std.specs.List.{position, position_or_len}
 use Rattle.lists.specs.Lists.{lead, del}
 use Rattle.lists.proofs.Places.{lead-map, map_snoc, map-del, cut-found, cut-missing}
 use lib.Seq.{get_or-set_same, get_or-set_other, drop-set-lt, take-suc-set, length-take-le}
@@ -114,6 +117,27 @@ turned-value w p v room hv =
     }
 
 -- ---- an ack
+-- What `position` answers, by the elements that lead.
+module _ {A : Type 0} (p : A → Bool) where
+  lead-position : (l : List A) → lead (λ x. not (p x)) l ≡ position_or_len p l
+  lead-position [] = refl
+  lead-position (x ∷ l) = by-test (p x) (lead-position l)
+    where
+      by-test : (b : Bool) → lead (λ x. not (p x)) l ≡ position_or_len p l
+          → ◌≡◌ {A = ℕ} (elim (not b) [ true ↦ suc (lead (λ x. not (p x)) l) | false ↦ 0 ]) (cond (not b) (1 + position_or_len p l) 0)
+      by-test true e = refl
+      by-test false e = omega arith
+
+  place-found : (k n : ℕ) (b : Bool) (r : Option ℕ) → ltb k n ≡ b → r ≡ cond b (Some k) None → MatchOption r (n ≤ k) (λ at. (at ≡ k) × (at < n))
+  place-found k n true None e f = cc
+  place-found k n true (Some at) e f = let same : at ≡ k = cc in (same, omega (arith, ltb-true k n e))
+  place-found k n false None e f = omega (arith, ltb-false k n e)
+  place-found k n false (Some at) e f = cc
+
+  pub position-leads : (l : List A) (r : Option ℕ) → r ≡ position p l
+      → MatchOption r (length l ≤ lead (λ x. not (p x)) l) (λ at. (at ≡ lead (λ x. not (p x)) l) × (at < length l))
+  position-leads l r e = rw (lead-position l) (place-found (position_or_len p l) (length l) _ r refl e)
+
 module _ (n : ℕ) (l : List (List ℕ)) where
   first-is : lead (λ q. not (eqb n q.number.0)) (map pending_in l) ≡ lead (other n) l
   unfolding pending_in

@@ -1,12 +1,13 @@
 // The durable part of an actor as rows of words, lent: a message becomes pending, the inner actor saves a value, a
 // number is acked. A row: next number, count of pending records, whether a value is saved, the value, the count of sources, and from
 // place 8 on the numbers last taken. A pending record: number, destination, payload. The other places are free.
+// Rows of words and no structs: a step changes them where they lie, in fixed memory, and copies no large array.
 #![tactic(auto)]
 
 ghost use Rattle.std.specs.Prelude.{◌≡◌, List, ℕ, ◌+◌, ◌≤◌, ◌<◌, length, take, get_or};
-ghost use Rattle.lists.specs.Lists.{lead};
+ghost use Rattle.std.specs.List.{position};
 ghost use Rattle.rules.specs.Link.{posting, with_inner, acked};
-ghost use Rattle.link_rows.specs.Rows.{row_size, other, Turned};
+ghost use Rattle.link_rows.specs.Rows.{row_size, has_number, Turned};
 
 use rows::remove_at;
 
@@ -14,6 +15,8 @@ use rows::remove_at;
 pub const ROW: usize = 32;
 
 pub const RECORD: usize = 4;
+
+// Row and records are lent apart, as slices with their lengths in the clauses: an array, or a struct of both, would ask more of callers.
 
 // A message to `dst` takes the next number and becomes pending.
 pub fn post(live: &mut [u64], pend: &mut [[u64; RECORD]], dst: u64, payload: u64)
@@ -40,19 +43,12 @@ pub fn save_value(live: &mut [u64], value: u64)
     live[3] = value;
 }
 
-// The place of the pending record with a number, or their count.
-fn pending_place(pend: &[[u64; RECORD]], used: usize, number: u64) -> usize
+// The place of the pending record with a number.
+fn pending_place(pend: &[[u64; RECORD]], used: usize, number: u64) -> Option<usize>
     requires { used ≤ length pend.now }
-    ensures { result ≡ lead (other number) (take used pend.now) }
+    ensures { result ≡ position (has_number number) (take used pend.now) }
 {
-    let mut i = 0;
-    while i < used {
-        if pend[i][0] == number {
-            return i;
-        }
-        i += 1;
-    }
-    i
+    pend[..used].iter().position(|r| number == r[0])
 }
 
 // A number is acked: its record goes; absent is fine.
@@ -62,10 +58,8 @@ pub fn drop_acked(live: &mut [u64], pend: &mut [[u64; RECORD]], number: u64)
         × (get_or live.new 1 0 ≤ get_or live.old 1 0) }
 {
     let n = live[1];
-    let at = pending_place(pend, n as usize, number);
-    if (n as usize) <= at {
-        return;
+    if let Some(at) = pending_place(pend, n as usize, number) {
+        remove_at(pend, n as usize, at);
+        live[1] = n - 1;
     }
-    remove_at(pend, n as usize, at);
-    live[1] = n - 1;
 }

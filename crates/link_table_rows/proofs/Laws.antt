@@ -8,9 +8,11 @@ use mathlib.Core.Bool.{Bool, true, false, ◌||◌}
 use mathlib.Core.List.{List, [], ◌∷◌, map}
 use lib.ListN.{length, take, drop, get_or, replicate, take-append-drop, length-drop}
 use lib.Seq.{length-take-le}
-use lib.Dec.{eqb, ltb}
-use borrow.Author.Tests.{leb-true, lt-ltb}
-use Rattle.lists.specs.Lists.{choose, any, all, pad}
+use lib.Dec.{eqb}
+use borrow.Author.Tests.{leb-true}
+use Rattle.std.specs.Int.{from_bool}
+use Rattle.std.proofs.lemmas.List.{take-map}
+use Rattle.lists.specs.Lists.{any, all, pad}
 use Rattle.lists.proofs.Members.{and_both, every-cons}
 use Rattle.lists.proofs.Walks.{map_back, all_same}
 use Rattle.types.specs.Capacities.{most_commands, last_state}
@@ -27,40 +29,32 @@ use Rattle.rules.specs.WellFormed.{unused, rule_ok}
 use Rattle.link_direct.specs.Direct.{sends}
 use Rattle.link_inner.proofs.Tables.{zero-slot}
 use Rattle.link_tables.specs.Rows.{mark, command_in, commands_in, rule_in, orders, RowLaid}
-use Rattle.link_table_rows.specs.Layout.{flag, words_of, words_at, Fits, row_with, row_of}
+use Rattle.link_table_rows.specs.Layout.{words_of, words_at, Fits, row_with, row_of, Laid}
 use Rattle.link_table_rows.specs.declared.Words.{Words}
 
 -- ---- a command
-mark-flag : (n : ℕ) (b : Bool) → n % 2 ≡ flag b → mark n ≡ b
-unfolding choose
+mark-flag : (n : ℕ) (b : Bool) → n % 2 ≡ from_bool b → mark n ≡ b
 mark-flag n true e = rw e
 mark-flag n false e = rw e
 
-flag-back : (b : Bool) → mark (flag b) ≡ b
-unfolding choose
+flag-back : (b : Bool) → mark (from_bool b) ≡ b
 flag-back true = refl
 flag-back false = refl
 
-flag_one : (b : Bool) → eqb (flag b) 1 ≡ b
-unfolding choose
+flag_one : (b : Bool) → eqb (from_bool b) 1 ≡ b
 flag_one true = refl
 flag_one false = refl
 
-flag-few : (b : Bool) → flag b ≤ 1
-unfolding choose
+flag-few : (b : Bool) → from_bool b ≤ 1
 flag-few true = omega arith
 flag-few false = omega arith
 
 -- The third and the fourth bit of a send's head.
 third : (m n d : ℕ) → m ≤ 1 → n ≤ 1 → (2 + 4 * m + 8 * n + 16 * d) / 4 % 2 ≡ m
-third zero n d h k = omega arith
-third (suc zero) n d h k = omega arith
-third (suc (suc m)) n d h k = absurd (omega arith)
+third m n d h k = omega arith
 
 fourth : (m n d : ℕ) → m ≤ 1 → n ≤ 1 → (2 + 4 * m + 8 * n + 16 * d) / 8 % 2 ≡ n
-fourth m zero d h k = omega arith
-fourth m (suc zero) d h k = omega arith
-fourth m (suc (suc n)) d h k = absurd (omega arith)
+fourth m n d h k = omega arith
 
 command-back : (c : RuleCommand) → command_in (words_of c).head (words_of c).word ≡ c
 unfolding command_in words_of
@@ -72,9 +66,9 @@ command-back (CancelTimer t) =
     let k : (1 + 16 * t) % 4 ≡ 1 = omega arith in
     let n : (1 + 16 * t) / 16 ≡ t = omega arith in
     rw (k, n)
-command-back (Send a d b p) = go (flag a) (flag b) (flag-few a) (flag-few b) refl refl
+command-back (Send a d b p) = go (from_bool a) (from_bool b) (flag-few a) (flag-few b) refl refl
   where
-    go : (m n : ℕ) → m ≤ 1 → n ≤ 1 → m ≡ flag a → n ≡ flag b → command_in (2 + 4 * m + 8 * n + 16 * d.0) p.0 ≡ Send a d b p
+    go : (m n : ℕ) → m ≤ 1 → n ≤ 1 → m ≡ from_bool a → n ≡ from_bool b → command_in (2 + 4 * m + 8 * n + 16 * d.0) p.0 ≡ Send a d b p
     go m n h k e f =
         let w = 2 + 4 * m + 8 * n + 16 * d.0 in
         let z : w % 4 ≡ 2 = omega arith in
@@ -82,9 +76,9 @@ command-back (Send a d b p) = go (flag a) (flag b) (flag-few a) (flag-few b) ref
         let y = mark-flag (w / 4) a (third m n d.0 h k ∙ e) in
         let v = mark-flag (w / 8) b (fourth m n d.0 h k ∙ f) in
         rw (z, x, y, v)
-command-back (Save b v) = go (flag b) (flag-few b) refl
+command-back (Save b v) = go (from_bool b) (flag-few b) refl
   where
-    go : (n : ℕ) → n ≤ 1 → n ≡ flag b → command_in (3 + 8 * n) v ≡ Save b v
+    go : (n : ℕ) → n ≤ 1 → n ≡ from_bool b → command_in (3 + 8 * n) v ≡ Save b v
     go n k f =
         let z : (3 + 8 * n) % 4 ≡ 3 = omega arith in
         let y = mark-flag ((3 + 8 * n) / 8) b (omega arith) in
@@ -92,20 +86,26 @@ command-back (Save b v) = go (flag b) (flag-few b) refl
 
 -- What it counts for, whatever is filled in.
 module _ (source : Id) (value : ℕ) where
-  sends-one : (c : RuleCommand) (os : List InnerCommand) → sends (told source value c ∷ os) ≡ (words_of c).sent + sends os
+  sends-one : (c : RuleCommand) (os : List InnerCommand) → sends (told source value c ∷ os) ≡ from_bool (words_of c).sent + sends os
   unfolding sends told words_of
   sends-one (SetTimer t) os = omega arith
   sends-one (CancelTimer t) os = omega arith
   sends-one (Send a d b p) os = omega arith
   sends-one (Save b v) os = omega arith
 
-  keeps-one : (c : RuleCommand) (os : List InnerCommand) (n : ℕ) → any durably os ≡ ltb 0 n
-      → any durably (told source value c ∷ os) ≡ ltb 0 ((words_of c).kept + n)
+  keeps-one : (c : RuleCommand) (os : List InnerCommand) → any durably (told source value c ∷ os) ≡ ((words_of c).kept || any durably os)
   unfolding any durably told words_of
-  keeps-one (SetTimer t) os n e = let z : n ≡ 0 + n = omega arith in rw (← z) e
-  keeps-one (CancelTimer t) os n e = let z : n ≡ 0 + n = omega arith in rw (← z) e
-  keeps-one (Send a d b p) os n e = sym (lt-ltb 0 (1 + n) (omega arith))
-  keeps-one (Save b v) os n e = sym (lt-ltb 0 (1 + n) (omega arith))
+  keeps-one (SetTimer t) os = refl
+  keeps-one (CancelTimer t) os = refl
+  keeps-one (Send a d b p) os = refl
+  keeps-one (Save b v) os = refl
+
+one-by-one : (a b c d : Bool) → (a || b || c || d) ≡ (a || (b || (c || (d || false))))
+one-by-one true b c d = refl
+one-by-one false true c d = refl
+one-by-one false false true d = refl
+one-by-one false false false true = refl
+one-by-one false false false false = refl
 
 -- ---- what a sound rule's test says
 record Good (r : Rule) : Type 0 where
@@ -123,11 +123,6 @@ good r e =
 
 abbrev command_is : Slot → RuleCommand
 command_is s = s.command
-
-take-map : {A B : Type 0} (f : A → B) (n : ℕ) (l : List A) → take n (map f l) ≡ map f (take n l)
-take-map f zero l = refl
-take-map f (suc n) [] = refl
-take-map f (suc n) (x ∷ l) = ap (λ k. f x ∷ k) (take-map f n l)
 
 abbrev four_of : List Slot → List RuleCommand
 four_of l = command_is (get_or l 0 zero_slot) ∷ command_is (get_or l 1 zero_slot) ∷ command_is (get_or l 2 zero_slot) ∷ command_is (get_or l 3 zero_slot) ∷ []
@@ -224,18 +219,18 @@ module _ (r : Rule) (room : length r.commands ≡ most_commands) (fine : Good r)
     durable-is : eqb (get_or (row_of r) 15 0) 1 ≡ any durably (orders (row_of r) source value)
     unfolding row_of any durably
     durable-is =
-        let z : (words_at r 0).kept + (words_at r 1).kept + (words_at r 2).kept + (words_at r 3).kept
-        ≡ (words_at r 0).kept + ((words_at r 1).kept + ((words_at r 2).kept + ((words_at r 3).kept + 0))) = omega arith in
-        let d = keeps-one source value (at 3) [] 0 refl in
-        let c = keeps-one source value (at 2) (from 3) _ d in
-        let b = keeps-one source value (at 1) (from 2) _ c in
-        let a = keeps-one source value (at 0) (from 1) _ b in
+        let k = λ (i : ℕ). (words_at r i).kept in
+        let a = keeps-one source value (at 0) (from 1) in
+        let b = keeps-one source value (at 1) (from 2) in
+        let c = keeps-one source value (at 2) (from 3) in
+        let d = keeps-one source value (at 3) [] in
         let e = over-four (any durably) (λ os. refl) (λ x os ps h. ap (λ (t : Bool). durably x || t) h) in
-        flag_one _ ∙ ap (ltb 0) z ∙ sym a ∙ sym e
+        flag_one _ ∙ one-by-one (k 0) (k 1) (k 2) (k 3)
+        ∙ sym (e ∙ a ∙ ap (λ (t : Bool). k 0 || t) (b ∙ ap (λ (t : Bool). k 1 || t) (c ∙ ap (λ (t : Bool). k 2 || t) d)))
 
-  row_laid : Fits (words_at r 0) → Fits (words_at r 1) → Fits (words_at r 2) → Fits (words_at r 3) → RowLaid (row_of r)
+  row_laid : ((i : ℕ) → i < most_commands → Fits (words_at r i)) → RowLaid (row_of r)
   unfolding row_of
-  row_laid a b c d = record {
+  row_laid f = record {
     room = refl;
     next = let z = fine.next in omega arith;
     used = fine.used;
@@ -246,29 +241,31 @@ module _ (r : Rule) (room : length r.commands ≡ most_commands) (fine : Good r)
   }
     where
       heads : (i : ℕ) → i < most_commands → get_or (row_of r) (6 + 2 * i) 0 < 4096
-      heads zero h = a.head
-      heads (suc zero) h = b.head
-      heads (suc (suc zero)) h = c.head
-      heads (suc (suc (suc zero))) h = d.head
+      heads zero h = (f 0 h).head
+      heads (suc zero) h = (f 1 h).head
+      heads (suc (suc zero)) h = (f 2 h).head
+      heads (suc (suc (suc zero))) h = (f 3 h).head
       heads (suc (suc (suc (suc i)))) h = absurd (omega arith)
 
       words : (i : ℕ) → i < most_commands → get_or (row_of r) (7 + 2 * i) 0 < 4294967296
-      words zero h = a.word
-      words (suc zero) h = b.word
-      words (suc (suc zero)) h = c.word
-      words (suc (suc (suc zero))) h = d.word
+      words zero h = (f 0 h).word
+      words (suc zero) h = (f 1 h).word
+      words (suc (suc zero)) h = (f 2 h).word
+      words (suc (suc (suc zero))) h = (f 3 h).word
       words (suc (suc (suc (suc i)))) h = absurd (omega arith)
 
 -- What the code lays out.
-abbrev At : Rule → ℕ → Words → Type 0
-At r i x = (x ≡ words_at r i) × Fits x
-
-pub row_is : (r : Rule) → length r.commands ≡ most_commands → rule_ok r ≡ true
-    → (a b c d : Words) → At r 0 a → At r 1 b → At r 2 c → At r 3 d → (x : List ℕ) → x ≡ row_with r a b c d
-    → (x ≡ row_of r) × (rule_in x ≡ r) × RowLaid x
+pub row_is : (r : Rule) → length r.commands ≡ most_commands → (ws : List Words) (z : Words)
+    → ((i : ℕ) → i < most_commands → (get_or ws i z ≡ words_at r i) × Fits (get_or ws i z))
+    → (x : List ℕ) → x ≡ row_with r (get_or ws 0 z) (get_or ws 1 z) (get_or ws 2 z) (get_or ws 3 z) → Laid r x
 unfolding row_of
-row_is r room ok a b c d p q s t x e =
-    let f : x ≡ row_of r = e ∙ rw (p.0, q.0, s.0, t.0) in
-    let g = good r ok in
-    let laid = row_laid r room g (subst Fits p.0 p.1) (subst Fits q.0 q.1) (subst Fits s.0 s.1) (subst Fits t.0 t.1) in
-    (f, ap rule_in f ∙ rule-back r room g, subst RowLaid (sym f) laid)
+row_is r room ws z f x e = record {
+  is = is;
+  good = λ ok.
+      let g = good r ok in
+      let laid = row_laid r room g (λ i h. subst Fits (f i h).0 (f i h).1) in
+      (ap rule_in is ∙ rule-back r room g, subst RowLaid (sym is) laid);
+}
+  where
+    is : x ≡ row_of r
+    is = e ∙ rw ((f 0 (omega arith)).0, (f 1 (omega arith)).0, (f 2 (omega arith)).0, (f 3 (omega arith)).0)

@@ -20,7 +20,7 @@ use Rattle.link_inner.specs.declared.Table.{Table}
 use Rattle.link_inner.specs.Views.{rules_of, table_ok}
 use Rattle.link_inner.proofs.Tables.{outside, table_is}
 use Rattle.link_tables.specs.Rows.{rule_in, RowLaid, TableLaid, rules_in}
-use Rattle.link_table_rows.specs.Layout.{row_of}
+use Rattle.link_table_rows.specs.Layout.{row_of, Laid}
 
 abbrev zeros : List ℕ
 zeros = replicate 16 0
@@ -37,7 +37,7 @@ abbrev rows : List Rule → ℕ → List (List ℕ)
 rows rs n = map row_of (take n rs)
 
 -- The first n are laid out.
-pub record Laid (rs : List Rule) (n : ℕ) (out : List (List ℕ)) : Type 0 where
+pub record Filled (rs : List Rule) (n : ℕ) (out : List (List ℕ)) : Type 0 where
   pub filled : out ≡ pad most_rules zeros (rows rs n)
   pub good : (i : ℕ) → i < n → Back (get_or rs i outside)
 
@@ -45,36 +45,47 @@ module _ (rs : List Rule) (room : length rs ≡ most_rules) where
   count : (n : ℕ) → n ≤ most_rules → length (rows rs n) ≡ n
   count n h = length-map (take n rs) row_of ∙ length-take-le n rs (omega arith)
 
-  pub laid_none : Laid rs 0 (replicate most_rules zeros)
+  pub laid_none : Filled rs 0 (replicate most_rules zeros)
   unfolding pad
   laid_none = record { filled = refl; good = below_none _ }
 
   one_more : (n : ℕ) → n < most_rules → rows rs (n + 1) ≡ rows rs n ++ row_of (get_or rs n outside) ∷ []
   one_more n h = rw (add-one n, take-suc rs n outside (omega arith)) (map-append row_of (take n rs) (get_or rs n outside ∷ []))
 
-  pub laid_next : (n : ℕ) (out : List (List ℕ)) (x : List ℕ) → n < most_rules → Laid rs n out
-      → (x ≡ row_of (get_or rs n outside)) × (rule_in x ≡ get_or rs n outside) × RowLaid x → Laid rs (n + 1) (set out n x)
-  laid_next n out x h l p = record {
+  laid_next : (n : ℕ) (out : List (List ℕ)) (x : List ℕ) → n < most_rules → Filled rs n out → rule_ok (get_or rs n outside) ≡ true
+      → Laid (get_or rs n outside) x → Filled rs (n + 1) (set out n x)
+  laid_next n out x h l ok p = record {
     filled =
         ap (λ (o : List (List ℕ)). set o n x) l.filled
         ∙ ap (λ (k : ℕ). set (pad most_rules zeros (rows rs n)) k x) (sym (count n (omega arith)))
         ∙ append-pad most_rules (rows rs n) x zeros (omega (arith, count n (omega arith)))
-        ∙ ap (pad most_rules zeros) (ap (λ (y : List ℕ). rows rs n ++ y ∷ []) p.0 ∙ sym (one_more n h));
-    good = below_more _ n l.good (ap rule_in (sym p.0) ∙ p.1, subst RowLaid p.0 p.2);
+        ∙ ap (pad most_rules zeros) (ap (λ (y : List ℕ). rows rs n ++ y ∷ []) p.is ∙ sym (one_more n h));
+    good = below_more _ n l.good (ap rule_in (sym p.is) ∙ (p.good ok).0, subst RowLaid p.is (p.good ok).1);
   }
+
+pub used_fit : (t : Table) → table_ok t ≡ true → t.used ≤ most_rules
+used_fit t ok = (table_is t ok).fit
 
 module _ (t : Table) (room : length t.rules ≡ most_rules) (ok : table_ok t ≡ true) where
   fit : t.used ≤ most_rules
-  fit = (table_is t ok).fit
+  fit = used_fit t ok
 
-  pub rule-ok : (i : ℕ) → i < t.used → rule_ok (get_or t.rules i outside) ≡ true
-  rule-ok i h =
+  pub all-used : t.used ≡ length (rules_of t)
+  all-used = let u = fit in sym (length-take-le t.used t.rules (omega arith))
+
+  rule-ok : (i : ℕ) → i < length (rules_of t) → rule_ok (get_or (rules_of t) i outside) ≡ true
+  rule-ok i h = all_in rule_ok (rules_of t) (sound-rules (rules_of t) (table_is t ok).good) (get_or (rules_of t) i outside) (get_in (rules_of t) i outside h)
+
+  -- A turn of the loop.
+  pub one_laid : (i : ℕ) (out : List (List ℕ)) (x : List ℕ) → i < length (rules_of t) → Filled t.rules i out → Laid (get_or (rules_of t) i outside) x
+      → Filled t.rules (i + 1) (set out i x)
+  one_laid i out x h l p =
       let u = fit in
-      let z : i < length (rules_of t) = omega (arith, length-take-le t.used t.rules (omega arith)) in
-      ap rule_ok (sym (get_or-take t.used t.rules i outside h))
-      ∙ all_in rule_ok (rules_of t) (sound-rules (rules_of t) (table_is t ok).good) (get_or (rules_of t) i outside) (get_in (rules_of t) i outside z)
+      let n = all-used in
+      let e : get_or (rules_of t) i outside ≡ get_or t.rules i outside = get_or-take t.used t.rules i outside (omega arith) in
+      laid_next t.rules room i out x (omega arith) l (ap rule_ok (sym e) ∙ rule-ok i h) (subst (λ (r : Rule). Laid r x) e p)
 
-  module _ (out : List (List ℕ)) (l : Laid t.rules t.used out) where
+  module _ (out : List (List ℕ)) (l : Filled t.rules t.used out) where
     used-rows : take t.used out ≡ rows t.rules t.used
     unfolding pad
     used-rows = ap (take t.used) l.filled ∙ take_at (rows t.rules t.used) _ t.used (count t.rules room t.used fit)

@@ -8,123 +8,87 @@ ghost use Rattle.types.specs.Capacities.{most_commands, most_rules};
 ghost use Rattle.rules.specs.WellFormed.{rule_ok};
 ghost use Rattle.link_inner.specs.Views.{rules_of, table_ok};
 ghost use Rattle.link_tables.specs.Rows.{rule_in, RowLaid, TableLaid, rules_in};
-ghost use Rattle.link_table_rows.specs.Layout.{flag, words_of, words_at, Fits, row_with, row_of};
+ghost use Rattle.link_table_rows.specs.Layout.{words_of, Fits, row_of, Laid};
 
 use link_inner::Table;
 use types::{MOST_RULES, Rule, RuleCommand};
 
-// A command's two words; 1 or 0: whether it sends, and whether it sends or saves.
+// A command's two words; whether it sends, and whether it sends or saves.
 #[derive(Clone, Copy)]
 struct Words {
     head: u64,
     word: u64,
-    sent: u64,
-    kept: u64,
-}
-
-fn flag_of(b: bool) -> u64
-    ensures { (result ≡ flag b) × (result ≤ 1) }
-{
-    if b {
-        return 1;
-    }
-    0
+    sent: bool,
+    kept: bool,
 }
 
 // What a type says of the numbers in a command is known here.
+#[tactic(auto, unfolding(crate::specs::Layout::words_of))]
 fn words_of(c: RuleCommand) -> Words
     ensures { (result ≡ words_of c) × Fits result }
 {
     match c {
         RuleCommand::SetTimer(t) => Words {
-            head: 16 * (t as u64),
+            head: 16 * u64::from(t),
             word: 0,
-            sent: 0,
-            kept: 0,
+            sent: false,
+            kept: false,
         },
         RuleCommand::CancelTimer(t) => Words {
-            head: 1 + 16 * (t as u64),
+            head: 1 + 16 * u64::from(t),
             word: 0,
-            sent: 0,
-            kept: 0,
+            sent: false,
+            kept: false,
         },
-        RuleCommand::Send(to_source, dst, echo, payload) => {
-            let a = flag_of(to_source);
-            let b = flag_of(echo);
-            Words {
-                head: 2 + 4 * a + 8 * b + 16 * (dst.0 as u64),
-                word: payload.0 as u64,
-                sent: 1,
-                kept: 1,
-            }
-        }
-        RuleCommand::Save(echo, v) => {
-            let b = flag_of(echo);
-            Words {
-                head: 3 + 8 * b,
-                word: v as u64,
-                sent: 0,
-                kept: 1,
-            }
-        }
+        RuleCommand::Send(to_source, dst, echo, payload) => Words {
+            head: 2 + 4 * u64::from(to_source) + 8 * u64::from(echo) + 16 * u64::from(dst.0),
+            word: u64::from(payload.0),
+            sent: true,
+            kept: true,
+        },
+        RuleCommand::Save(echo, v) => Words {
+            head: 3 + 8 * u64::from(echo),
+            word: u64::from(v),
+            sent: false,
+            kept: true,
+        },
     }
 }
 
-fn words_at(r: Rule, i: usize) -> Words
-    requires { i < most_commands }
-    ensures { (result ≡ words_at r i) × Fits result }
-{
-    let cs = r.commands;
-    let s = cs[i];
-    let c = s.command;
-    words_of(c)
-}
-
 // The row with the words of its four places.
-fn row_with(r: Rule, a: Words, b: Words, c: Words, d: Words) -> [u64; 16]
-    requires { Fits a × Fits b × Fits c × Fits d }
-    ensures { result ≡ row_with r a b c d }
+fn row_of(r: Rule) -> [u64; 16]
+    ensures { Laid r result }
 {
-    let sent = a.sent + b.sent + c.sent + d.sent;
-    let kept = a.kept + b.kept + c.kept + d.kept;
-    let lasting = flag_of(0 < kept);
-    let key = (r.event as u64) * 16 + (r.state as u64);
-    let low = r.low as u64;
-    let high = r.high as u64;
-    let touched = flag_of(r.touched);
-    let next = r.next as u64;
-    let used = r.used as u64;
+    let [a, b, c, d] = r.commands.map(|s| words_of(s.command));
     [
-        key, low, high, touched, next, used, a.head, a.word, b.head, b.word, c.head, c.word,
-        d.head, d.word, sent, lasting,
+        u64::from(r.event) * 16 + u64::from(r.state),
+        u64::from(r.low),
+        u64::from(r.high),
+        u64::from(r.touched),
+        u64::from(r.next),
+        r.used as u64,
+        a.head,
+        a.word,
+        b.head,
+        b.word,
+        c.head,
+        c.word,
+        d.head,
+        d.word,
+        u64::from(a.sent) + u64::from(b.sent) + u64::from(c.sent) + u64::from(d.sent),
+        u64::from(a.kept | b.kept | c.kept | d.kept),
     ]
 }
 
-// A sound rule's places that are not used hold zero, so that all four are laid out alike.
-fn row_of(r: Rule) -> [u64; 16]
-    requires { rule_ok r ≡ true }
-    ensures { (result ≡ row_of r) × (rule_in result ≡ r) × RowLaid result }
-{
-    let a = words_at(r, 0);
-    let b = words_at(r, 1);
-    let c = words_at(r, 2);
-    let d = words_at(r, 3);
-    row_with(r, a, b, c, d)
-}
-
-// The rows that are not used are zero.
+// The rows that are not used are zero. A loop over the used ones: a map of all sixteen rules was tried, and takes three times as long.
+#[tactic(auto, using(crate::proofs::Tables::used_fit))]
 pub fn rows_of(t: Table) -> [[u64; 16]; MOST_RULES]
     requires { table_ok t ≡ true }
     ensures { (rules_in result t.used ≡ rules_of t) × TableLaid result t.used × (result ≡ pad most_rules (replicate 16 0) (map row_of (rules_of t))) }
 {
-    let used = t.used;
-    let rules = t.rules;
-    let mut out = [[0u64; 16]; MOST_RULES];
-    let mut i = 0;
-    while i < used {
-        let r = rules[i];
-        out[i] = row_of(r);
-        i += 1;
+    let mut out = [[0; 16]; MOST_RULES];
+    for (i, r) in t.rules[..t.used].iter().enumerate() {
+        out[i] = row_of(*r);
     }
     out
 }

@@ -7,15 +7,13 @@ use native.Mathlib.Omega.{arith}
 use mathlib.Core.Path.{◌≡◌, refl, sym, ap, ◌∙◌}
 use mathlib.Core.Bool.{Bool, true, false, not, ◌&&◌}
 use mathlib.Core.List.{List, [], ◌∷◌, map}
-use lib.ListN.{length, take, get_or, length-map}
+use lib.ListN.{length, take, get_or}
 use lib.Seq.{get_or-take, length-take-le}
 use lib.Dec.{eqb}
 use borrow.Author.Tests.{ne_eqb}
 use Rattle.lists.specs.Lists.{choose, any}
-use Rattle.lists.proofs.Places.{lead-le}
 use Rattle.types.specs.declared.Id.{Id}
-use Rattle.types.specs.declared.Storage.{Storage}
-use Rattle.types.specs.declared.Storage.TheVariants.{Nothing, Value}
+use Rattle.std.specs.Prelude.{Option, Some, None}
 use Rattle.types.specs.declared.InnerCommand.{InnerCommand}
 use Rattle.rules.specs.Inner.{Reply, matches, decided, reply, at_start, ignored, nobody}
 use Rattle.link_tables.specs.Rows.{mark, rule_in, orders, replied, RowLaid, TableLaid, rules_in, first_of, deciding_of, start_event, start_value}
@@ -27,10 +25,10 @@ unfolding any
 not-any [] = refl
 not-any (x ∷ l) = sym (ne_eqb (suc (length l)) 0 (λ e. omega arith))
 
-pub row-ignored : (r : List ℕ) (source : Id) (value : ℕ) → RowLaid r
+pub row_ignored : (r : List ℕ) (source : Id) (value : ℕ) → RowLaid r
     → ignored (replied r source value) ≡ (not (mark (get_or r 3 0)) && eqb (get_or r 5 0) 0)
 unfolding ignored
-row-ignored r source value laid = rw (not-any (orders r source value), orders-count r source value laid)
+row_ignored r source value laid = rw (not-any (orders r source value), orders-count r source value laid)
 
 -- ---- what decides
 module _ (event state : ℕ) (source : Id) (value : ℕ) where
@@ -83,22 +81,17 @@ module _ (event state : ℕ) (source : Id) (value : ℕ) where
     none-ignored h = ap ignored (none-replies h)
 
     -- So the place that `deciding` gives is that of a rule that does not ignore the event, or the count.
-    pub none-decides : used ≤ at → at ≡ deciding_of event state source value t used
+    pub none_decides : used ≤ at → used ≡ deciding_of event state source value t used
     unfolding choose
-    none-decides h =
-        let most = lead-le (λ x. not (matches event state value x)) (rules_in t used) in
-        let z = length-map (take used t) rule_in in
-        let y = length-take-le used t laid.fit in
-        let x : at ≡ used = omega arith in
-        x ∙ rw (none-ignored h)
+    none_decides h = rw (none-ignored h)
 
-    pub one-ignores : at < used → ignored (replied (get_or t at []) source value) ≡ true → used ≡ deciding_of event state source value t used
+    pub one_ignores : at < used → ignored (replied (get_or t at []) source value) ≡ true → used ≡ deciding_of event state source value t used
     unfolding choose
-    one-ignores h i = rw (row-replies h, i)
+    one_ignores h i = rw (row-replies h, i)
 
-    pub one-decides : at < used → ignored (replied (get_or t at []) source value) ≡ false → at ≡ deciding_of event state source value t used
+    pub one_decides : at < used → ignored (replied (get_or t at []) source value) ≡ false → at ≡ deciding_of event state source value t used
     unfolding choose
-    one-decides h i = e ∙ rw (row-replies h, i)
+    one_decides h i = e ∙ rw (row-replies h, i)
 
   -- What that place says.
   module _ (t : List (List ℕ)) (used at : ℕ) (laid : TableLaid t used) (e : at ≡ deciding_of event state source value t used) where
@@ -125,12 +118,12 @@ module _ (event state : ℕ) (source : Id) (value : ℕ) where
         go false i = none-ignored t used at laid (e ∙ rw i) h
 
 -- ---- a start is an event in state 0
-module _ (saved : Storage) (t : List (List ℕ)) (used at : ℕ) (laid : TableLaid t used)
+module _ (saved : Option ℕ) (t : List (List ℕ)) (used at : ℕ) (laid : TableLaid t used)
     (e : at ≡ first_of (start_event saved) 0 (start_value saved) (rules_in t used)) where
-  start_is : (s : Storage) → at_start (rules_in t used) s ≡ reply (rules_in t used) (start_event s) 0 nobody (start_value s)
+  start_is : (s : Option ℕ) → at_start (rules_in t used) s ≡ reply (rules_in t used) (start_event s) 0 nobody (start_value s)
   unfolding at_start start_event start_value
-  start_is Nothing = refl
-  start_is (Value v) = refl
+  start_is None = refl
+  start_is (Some v) = refl
 
   pub start-replies : at < used → at_start (rules_in t used) saved ≡ replied (get_or t at []) nobody (start_value saved)
   start-replies h = start_is saved ∙ row-replies (start_event saved) 0 nobody (start_value saved) t used at laid e h

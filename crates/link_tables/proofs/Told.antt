@@ -1,6 +1,6 @@
 -- A command's two words, and a row's commands.
 -- Assumes nothing.
-use Prim.Native.Nat.{ℕ, zero, suc, ◌+◌, ◌*◌, ◌/◌, ◌%◌, ◌≤◌, ◌<◌}
+use Prim.Native.Nat.{ℕ, zero, suc, ◌+◌, ◌*◌, ◌≤◌, ◌<◌}
 use native.Mathlib.Omega.{arith}
 use native.Mathlib.Numerals.{add-one}
 use mathlib.Core.Path.{◌≡◌, refl, ap, ◌∙◌}
@@ -8,7 +8,6 @@ use mathlib.Core.Bool.{Bool, true, false}
 use mathlib.Core.List.{List, [], ◌∷◌, map}
 use lib.ListN.{length, take, drop, get_or, replicate, length-map, get_or-map, get_or-replicate, drop_of_length-le}
 use lib.Seq.{get_or-take, length-take-le, take_at, drop-cons}
-use borrow.Author.Tests.{eq-eqb, ne_eqb}
 use Rattle.lists.specs.Lists.{choose, any, pad}
 use Rattle.lists.proofs.Walks.{map_back}
 use Rattle.types.specs.Capacities.{most_commands}
@@ -21,39 +20,13 @@ use Rattle.types.specs.declared.RuleCommand.TheVariants as rule
 use Rattle.types.specs.declared.Slot.{Slot}
 use Rattle.rules.specs.Inner.{told, slots_of, commands_of, decided}
 use Rattle.link_direct.specs.Direct.{sends}
-use Rattle.link_tables.specs.Rows.{mark, command_in, command_at, commands_in, rule_in, orders, order_at, replied, RowLaid}
+use Rattle.link_tables.specs.Rows.{mark, command_at, commands_in, rule_in, orders, order_at, replied, RowLaid}
 
-module _ {A : Type 0} (n : ℕ) (x y : A) where
-  pub picks : n % 2 ≡ 1 → x ≡ choose (mark n) x y
-  unfolding choose
-  picks e = rw (eq-eqb (n % 2) 1 e)
-
-  pub passes : (n % 2 ≡ 1 → ⊥) → y ≡ choose (mark n) x y
-  unfolding choose
-  passes e = rw (ne_eqb (n % 2) 1 e)
-
-module _ (w v : ℕ) (source : Id) (value : ℕ) where
-  pub is_set : w % 4 ≡ 0 → SetTimer (w / 16) ≡ told source value (command_in w v)
-  unfolding told command_in
-  is_set e = rw e
-
-  pub is-cancel : w % 4 ≡ 1 → CancelTimer (w / 16) ≡ told source value (command_in w v)
-  unfolding told command_in
-  is-cancel e = rw e
-
-  pub is-save : w % 4 ≡ 3 → (x : ℕ) → x ≡ choose (mark (w / 8)) value v → Save x ≡ told source value (command_in w v)
-  unfolding told command_in
-  is-save e x p = rw (e, p)
-
-  filled : (b : Bool) → ◌≡◌ {A = Payload} (record { 0 = choose b value v }) (choose b (record { 0 = value }) (record { 0 = v }))
-  unfolding choose
-  filled true = refl
-  filled false = refl
-
-  pub is-send : w % 4 ≡ 2 → (x : ℕ) → x ≡ choose (mark (w / 8)) value v → (d : Id) → d ≡ choose (mark (w / 4)) source (record { 0 = w / 16 })
-      → Send d (record { 0 = x }) ≡ told source value (command_in w v)
-  unfolding told command_in
-  is-send e x p d q = rw (e, p, q) (ap (Send (choose (mark (w / 4)) source (record { 0 = w / 16 }))) (filled (mark (w / 8))))
+-- The payload of a send is a struct of its word.
+pub filled : (value v : ℕ) (b : Bool) → ◌≡◌ {A = Payload} (record { 0 = choose b value v }) (choose b (record { 0 = value }) (record { 0 = v }))
+unfolding choose
+filled value v true = refl
+filled value v false = refl
 
 -- ---- the commands of a row
 get_or-commands : (r : List ℕ) (z : RuleCommand) (i : ℕ) → i < most_commands → get_or (commands_in r) i z ≡ command_at r i

@@ -47,7 +47,7 @@ use Rattle.link_timers.proofs.Timers.TheLaws as T'
 use Rattle.link_timers.specs.contracts.Change as TC
 use Rattle.link_timers.proofs.Change.TheLaws as TC'
 use Rattle.link_timers.specs.contracts.Timers.set as core
-use Rattle.link_timers.specs.contracts.set_in_place as f
+use Rattle.link_timers.specs.contracts.Timers.set_in_place as f
 
 -- The code, at the key of the function that it calls.
 abbrev pub in_place : Callee → Fn

@@ -19,7 +19,7 @@ use Rattle.rules.specs.Timers.{is_set, set_timer, cancel_timer, set_changes, can
 use Rattle.rules.proofs.Timers.{set-unchanged, cancel-unchanged, not_in}
 use Rattle.link_timers.specs.declared.Timers.{Timers}
 use Rattle.link_timers.specs.declared.Change.{Change}
-use Rattle.link_timers.specs.declared.Found.TheVariants.{Timer, Nothing}
+use Rattle.std.specs.Prelude.{Some, None}
 use Rattle.link_timers.specs.Views.{bits, listed, word_of, timers_of, set_of, cancel_of, first_from}
 use Rattle.link_timers.proofs.Listed.{digit_set, listed-timers, word-listed, timers-listed}
 use Rattle.link_timers.proofs.First.{first-zeros}
@@ -46,15 +46,15 @@ rest-word x f h l =
 abbrev zeros_of : ℕ → ℕ → ℕ
 zeros_of x f = count_trailing_zeros bits (bit_and x (4294967295 * 2 ^ f % 4294967296))
 
-first_word : (x f : ℕ) → x < 2 ^ bits → f < bits → first_from f (listed x) ≡ choose (ltb (zeros_of x f) bits) (Timer (zeros_of x f)) Nothing
+first_word : (x f : ℕ) → x < 2 ^ bits → f < bits → first_from f (listed x) ≡ choose (ltb (zeros_of x f) bits) (Some (zeros_of x f)) None
 first_word x f h l =
-    first-zeros x f ∙ ap (λ (n : ℕ). choose (ltb (count_trailing_zeros bits n) bits) (Timer (count_trailing_zeros bits n)) Nothing) (sym (rest-word x f h l))
+    first-zeros x f ∙ ap (λ (n : ℕ). choose (ltb (count_trailing_zeros bits n) bits) (Some (count_trailing_zeros bits n)) None) (sym (rest-word x f h l))
 
-pub next-nothing : (x f : ℕ) → x < 2 ^ bits → f < bits → network < zeros_of x f → Nothing ≡ first_from f (listed x)
+pub next-none : (x f : ℕ) → x < 2 ^ bits → f < bits → network < zeros_of x f → None ≡ first_from f (listed x)
 unfolding choose
-next-nothing x f h l z = sym (first_word x f h l ∙ rw (le-ltb (zeros_of x f) bits z))
+next-none x f h l z = sym (first_word x f h l ∙ rw (le-ltb (zeros_of x f) bits z))
 
-pub next-timer : (x f : ℕ) → x < 2 ^ bits → f < bits → zeros_of x f ≤ network → Timer (zeros_of x f) ≡ first_from f (listed x)
+pub next-timer : (x f : ℕ) → x < 2 ^ bits → f < bits → zeros_of x f ≤ network → Some (zeros_of x f) ≡ first_from f (listed x)
 unfolding choose
 next-timer x f h l z = sym (first_word x f h l ∙ rw (lt-ltb (zeros_of x f) bits (suc-le-suc z)))
 

@@ -1,12 +1,10 @@
 -- The timers that a word holds, as an ascending list; the word that holds a list; what setting, cancelling and listing answer.
 -- Assumes nothing.
-use Rattle.std.specs.Prelude.{ℕ, zero, suc, ◌+◌, ◌/◌, ◌%◌, ◌^◌, leb, eqb, List, [], ◌∷◌, ◌++◌}
+use Rattle.std.specs.Prelude.{ℕ, zero, suc, ◌+◌, ◌/◌, ◌%◌, ◌^◌, leb, eqb, List, [], ◌∷◌, ◌++◌, Option, Some, None}
 use Rattle.lists.specs.Lists.{choose}
 use Rattle.rules.specs.Timers.{set_timer, cancel_timer, set_changes, cancel_changes}
 use Rattle.link_timers.specs.declared.Timers.{Timers}
 use Rattle.link_timers.specs.declared.Change.{Change}
-use Rattle.link_timers.specs.declared.Found.{Found}
-use Rattle.link_timers.specs.declared.Found.TheVariants.{Timer, Nothing}
 
 -- The places of the ones among the d lowest binary digits of x, where the lowest of them has the place k.
 unfoldable pub listed_from : ℕ → ℕ → ℕ → List ℕ
@@ -37,6 +35,6 @@ abbrev pub cancel_of : Timers → ℕ → Change
 cancel_of x t = record { changed = cancel_changes t (listed x.0); timers = timers_of (cancel_timer t (listed x.0)) }
 
 -- The first of an ascending list that is at least f.
-unfoldable pub first_from : ℕ → List ℕ → Found
-first_from f [] = Nothing
-first_from f (t ∷ ts) = choose (leb f t) (Timer t) (first_from f ts)
+unfoldable pub first_from : ℕ → List ℕ → Option ℕ
+first_from f [] = None
+first_from f (t ∷ ts) = choose (leb f t) (Some t) (first_from f ts)

@@ -11,18 +11,12 @@ use types::NETWORK;
 #[derive(Clone, Copy)]
 pub struct Timers(pub u32);
 
-// The set after a change that was asked for, and whether it is another than before.
+// The set after a change that was asked for, and whether it is another than before. Both always mean something, so it is a pair and
+// no Option: the caller goes on with the set either way.
 #[derive(Clone, Copy)]
 pub struct Change {
     pub changed: bool,
     pub timers: Timers,
-}
-
-// What a look for the next timer finds.
-#[derive(Clone, Copy)]
-pub enum Found {
-    Timer(u8),
-    Nothing,
 }
 
 impl Timers {
@@ -36,23 +30,14 @@ impl Timers {
     pub fn is_set(self, t: u8) -> bool
         ensures { result ≡ is_set t (listed self.0) }
     {
-        if NETWORK < t {
-            return false;
-        }
-        (self.0 >> t) & 1 == 1
+        t <= NETWORK && (self.0 >> t) & 1 == 1
     }
 
     // A timer above Network, or one that is set, changes nothing.
     pub fn set(self, t: u8) -> Change
         ensures { result ≡ set_of self t }
     {
-        if NETWORK < t {
-            return Change {
-                changed: false,
-                timers: self,
-            };
-        }
-        if self.is_set(t) {
+        if NETWORK < t || self.is_set(t) {
             return Change {
                 changed: false,
                 timers: self,
@@ -90,38 +75,38 @@ impl Timers {
     pub fn count(self) -> u32
         ensures { result ≡ count_timers (listed self.0) }
     {
-        u32::count_ones(self.0)
+        self.0.count_ones()
     }
 
-    // The listing, ascending: the least timer that is set and is at least from.
-    pub fn next(self, from: u8) -> Found
+    // The listing, ascending: the least timer that is set and is at least from. An index and an answer, with no state between the calls.
+    pub fn next(self, from: u8) -> Option<u8>
         ensures { result ≡ first_from from (listed self.0) }
     {
         if NETWORK < from {
-            return Found::Nothing;
+            return None;
         }
-        let rest = self.0 & 0xffff_ffff << from;
-        let zeros = u32::trailing_zeros(rest);
+        let zeros = (self.0 & 0xffff_ffff << from).trailing_zeros();
         if (NETWORK as u32) < zeros {
-            return Found::Nothing;
+            return None;
         }
-        Found::Timer(zeros as u8)
+        Some(zeros as u8)
     }
-}
 
-// In place: the set is changed where it stands, and the answer is whether it changed.
-pub fn set_in_place(timers: &mut Timers, t: u8) -> bool
-    ensures { (timers.new ≡ (set_of timers.old t).timers) × (result ≡ (set_of timers.old t).changed) }
-{
-    let set = Timers::set(*timers, t);
-    *timers = set.timers;
-    set.changed
-}
+    // In place, a thin pair over `set` and `cancel`: the set is changed where it stands, and the answer is whether it changed.
+    // One method with the change as a closure would be longer than the two.
+    pub fn set_in_place(&mut self, t: u8) -> bool
+        ensures { (self.new ≡ (set_of self.old t).timers) × (result ≡ (set_of self.old t).changed) }
+    {
+        let set = self.set(t);
+        *self = set.timers;
+        set.changed
+    }
 
-pub fn cancel_in_place(timers: &mut Timers, t: u8) -> bool
-    ensures { (timers.new ≡ (cancel_of timers.old t).timers) × (result ≡ (cancel_of timers.old t).changed) }
-{
-    let cancelled = Timers::cancel(*timers, t);
-    *timers = cancelled.timers;
-    cancelled.changed
+    pub fn cancel_in_place(&mut self, t: u8) -> bool
+        ensures { (self.new ≡ (cancel_of self.old t).timers) × (result ≡ (cancel_of self.old t).changed) }
+    {
+        let cancelled = self.cancel(t);
+        *self = cancelled.timers;
+        cancelled.changed
+    }
 }

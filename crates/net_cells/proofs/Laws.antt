@@ -1,14 +1,14 @@
 -- Laws of cells: they are told apart and ordered as their entries are, and each is read back.
 -- Assumes nothing.
-use Prim.Native.Nat.{ℕ, zero, suc, ◌+◌, ◌*◌, ◌/◌, ◌%◌, ◌≤◌, ◌<◌}
+use Prim.Native.Nat.{ℕ, zero, suc, ◌+◌, ◌*◌, ◌/◌, ◌%◌, ◌<◌}
 use native.Mathlib.Nat.{mod-lt, mod-eq_of_lt, zero-lt-suc}
 use native.Mathlib.Omega.{arith}
 use mathlib.Core.Path.{◌≡◌, refl, sym, ap, ap₂, ◌∙◌}
 use mathlib.Core.Bool.{Bool, true, false, not}
 use mathlib.Core.List.{List, [], ◌∷◌, map}
 use lib.ListN.{get_or, set}
-use lib.Dec.{ltb, leb, eqb}
-use borrow.Author.Tests.{lt-ltb, le-ltb, le-leb, lt-leb, eq-eqb, ne_eqb}
+use lib.Dec.{leb}
+use borrow.Author.Tests.{le-leb, lt-leb}
 use Rattle.lists.specs.Lists.{chain, lead}
 use Rattle.lists.proofs.Sorted.{All}
 use Rattle.types.specs.declared.Message.{Message}
@@ -18,15 +18,11 @@ use Rattle.types.specs.declared.Number.{Number}
 use Rattle.types.specs.declared.Payload.{Payload}
 use Rattle.rules.specs.Network.{single}
 use Rattle.types.specs.declared.Entry.{Entry}
-use Rattle.types.specs.declared.Order.{Order}
-use Rattle.types.specs.declared.Order.TheVariants.{Less, Equal, Greater}
-use Rattle.types.specs.Order.{cmp_n, pick_o, and_then, tag_of, number_of, payload_of, cmp_envelope, cmp_flow, is_less, is_equal}
-use Rattle.types.proofs.Laws.{cmp_n-less, cmp_n-equal, cmp_n-by, and_then-assoc, and_then-equal}
+use Rattle.std.specs.declared.cmp.Ordering.{Ordering}
+use Rattle.std.specs.declared.cmp.Ordering.TheVariants.{Less, Equal, Greater}
+use Rattle.types.specs.Order.{cmp_n, and_then, tag_of, number_of, payload_of, cmp_envelope, cmp_flow, is_less, is_equal}
+use Rattle.types.proofs.Laws.{cmp_n-less, cmp_n-equal, cmp_n-greater, cmp_n-by, and_then-assoc, and_then-equal}
 use Rattle.net_cells.specs.Cells.{tags, payloads, head_with, cell_of, message_of, entry_of, cmp_cell, flow_of, Packed}
-
--- ---- two numbers
-greater : (a b : ℕ) → b < a → cmp_n a b ≡ Greater
-greater a b h = simp (le-ltb a b (omega arith), lt-ltb b a h)
 
 -- ---- the order
 module _ (s d t s' d' t' : ℕ) (hd : d < 256) (ht : t < tags) (hd' : d' < 256) (ht' : t' < tags) where
@@ -34,16 +30,16 @@ module _ (s d t s' d' t' : ℕ) (hd : d < 256) (ht : t < tags) (hd' : d' < 256) 
   head-order = go (cmp_n s s') refl (cmp_n d d') refl (cmp_n t t') refl
     where
       go
-          : (o : Order) → cmp_n s s' ≡ o → (p : Order) → cmp_n d d' ≡ p → (q : Order) → cmp_n t t' ≡ q
+          : (o : Ordering) → cmp_n s s' ≡ o → (p : Ordering) → cmp_n d d' ≡ p → (q : Ordering) → cmp_n t t' ≡ q
           → cmp_n (head_with s d t) (head_with s' d' t') ≡ and_then o (and_then p q)
       go Less e p f q g = cmp_n-less (head_with s d t) (head_with s' d' t') (omega (arith, cmp_n-by s s' Less e))
-      go Greater e p f q g = greater (head_with s d t) (head_with s' d' t') (omega (arith, cmp_n-by s s' Greater e))
+      go Greater e p f q g = cmp_n-greater (head_with s d t) (head_with s' d' t') (omega (arith, cmp_n-by s s' Greater e))
       go Equal e Less f q g = cmp_n-less (head_with s d t) (head_with s' d' t') (omega (arith, cmp_n-by s s' Equal e, cmp_n-by d d' Less f))
-      go Equal e Greater f q g = greater (head_with s d t) (head_with s' d' t') (omega (arith, cmp_n-by s s' Equal e, cmp_n-by d d' Greater f))
+      go Equal e Greater f q g = cmp_n-greater (head_with s d t) (head_with s' d' t') (omega (arith, cmp_n-by s s' Equal e, cmp_n-by d d' Greater f))
       go Equal e Equal f Less g =
           cmp_n-less (head_with s d t) (head_with s' d' t') (omega (arith, cmp_n-by s s' Equal e, cmp_n-by d d' Equal f, cmp_n-by t t' Less g))
       go Equal e Equal f Greater g =
-          greater (head_with s d t) (head_with s' d' t') (omega (arith, cmp_n-by s s' Equal e, cmp_n-by d d' Equal f, cmp_n-by t t' Greater g))
+          cmp_n-greater (head_with s d t) (head_with s' d' t') (omega (arith, cmp_n-by s s' Equal e, cmp_n-by d d' Equal f, cmp_n-by t t' Greater g))
       go Equal e Equal f Equal g =
           cmp_n-equal (head_with s d t) (head_with s' d' t') (omega (arith, cmp_n-by s s' Equal e, cmp_n-by d d' Equal f, cmp_n-by t t' Equal g))
 
@@ -66,7 +62,7 @@ cell-order x y h k =
     let a = x.envelope in
     let b = y.envelope in
     ap
-    (λ (o : Order). and_then o (and_then (cmp_n (number_of a.msg) (number_of b.msg)) (cmp_n (payload_of a.msg) (payload_of b.msg))))
+    (λ (o : Ordering). and_then o (and_then (cmp_n (number_of a.msg) (number_of b.msg)) (cmp_n (payload_of a.msg) (payload_of b.msg))))
     (head-order a.src.0 a.dst.0 (tag_of a.msg) b.src.0 b.dst.0 (tag_of b.msg) h.dst (tag-few a.msg) k.dst (tag-few b.msg))
     ∙ simp (and_then-assoc, and_then-equal)
 
@@ -78,7 +74,7 @@ flow-order : (s d s' d' : ℕ) → d < 256 → d' < 256 → leb (s * 256 + d) (s
 flow-order s d s' d' h k = go (cmp_n s' s) refl (cmp_n d' d) refl
   where
     go
-        : (o : Order) → cmp_n s' s ≡ o → (p : Order) → cmp_n d' d ≡ p
+        : (o : Ordering) → cmp_n s' s ≡ o → (p : Ordering) → cmp_n d' d ≡ p
         → leb (s * 256 + d) (s' * 256 + d') ≡ not (is_less (and_then o (and_then p Equal)))
     go Less e p f = lt-leb (s * 256 + d) (s' * 256 + d') (omega (arith, cmp_n-by s' s Less e))
     go Greater e p f = le-leb (s * 256 + d) (s' * 256 + d') (omega (arith, cmp_n-by s' s Greater e))
@@ -148,61 +144,14 @@ module _ {A B : Type 0} (f : A → B) (P : A → Type 0) where
   chain-cells R S e (x ∷ []) h = refl
   chain-cells R S e (x ∷ (y ∷ l)) h = rw (e x y h.0 h.1.0, chain-cells R S e (y ∷ l) h.1)
 
--- ---- the tests of two cells, as the code makes them
+-- ---- two heads
 module _ (x k : List ℕ) where
-  pub before_head : get_or x 0 0 < get_or k 0 0 → true ≡ is_less (cmp_cell x k)
-  unfolding cmp_cell
-  before_head h = rw (lt-ltb (get_or x 0 0) (get_or k 0 0) h)
-
-  pub after-head : get_or k 0 0 < get_or x 0 0 → false ≡ is_less (cmp_cell x k)
-  unfolding cmp_cell
-  after-head h = rw (le-ltb (get_or x 0 0) (get_or k 0 0) (omega arith), lt-ltb (get_or k 0 0) (get_or x 0 0) h)
-
-  module _ (g : get_or x 0 0 ≤ get_or k 0 0) (h : get_or k 0 0 ≤ get_or x 0 0) where
-    past_head : cmp_cell x k ≡ and_then (cmp_n (get_or x 1 0) (get_or k 1 0)) (cmp_n (get_or x 2 0) (get_or k 2 0))
-    unfolding cmp_cell
-    past_head = rw (le-ltb (get_or x 0 0) (get_or k 0 0) h, le-ltb (get_or k 0 0) (get_or x 0 0) g)
-
-    pub before-number : get_or x 1 0 < get_or k 1 0 → true ≡ is_less (cmp_cell x k)
-    before-number l = rw (past_head, lt-ltb (get_or x 1 0) (get_or k 1 0) l)
-
-    pub after-number : get_or k 1 0 < get_or x 1 0 → false ≡ is_less (cmp_cell x k)
-    after-number l = rw (past_head, le-ltb (get_or x 1 0) (get_or k 1 0) (omega arith), lt-ltb (get_or k 1 0) (get_or x 1 0) l)
-
-    module _ (i : get_or x 1 0 ≤ get_or k 1 0) (j : get_or k 1 0 ≤ get_or x 1 0) where
-      past-number : cmp_cell x k ≡ cmp_n (get_or x 2 0) (get_or k 2 0)
-      past-number = past_head ∙ rw (le-ltb (get_or x 1 0) (get_or k 1 0) j, le-ltb (get_or k 1 0) (get_or x 1 0) i)
-
-      pub by-payload : ltb (get_or x 2 0) (get_or k 2 0) ≡ is_less (cmp_cell x k)
-      by-payload = rw past-number (go (ltb (get_or x 2 0) (get_or k 2 0)) (ltb (get_or k 2 0) (get_or x 2 0)))
-        where
-          go : (a b : Bool) → a ≡ is_less (pick_o a Less (pick_o b Greater Equal))
-          go true b = refl
-          go false true = refl
-          go false false = refl
-
-      pub same-payload : eqb (get_or x 2 0) (get_or k 2 0) ≡ is_equal (cmp_cell x k)
-      same-payload = rw past-number (go (cmp_n (get_or x 2 0) (get_or k 2 0)) refl)
-        where
-          go : (o : Order) → cmp_n (get_or x 2 0) (get_or k 2 0) ≡ o → eqb (get_or x 2 0) (get_or k 2 0) ≡ is_equal o
-          go Less e = ne_eqb (get_or x 2 0) (get_or k 2 0) (λ q. absurd (omega (arith, cmp_n-by (get_or x 2 0) (get_or k 2 0) Less e)))
-          go Equal e = eq-eqb (get_or x 2 0) (get_or k 2 0) (cmp_n-by (get_or x 2 0) (get_or k 2 0) Equal e)
-          go Greater e = ne_eqb (get_or x 2 0) (get_or k 2 0) (λ q. absurd (omega (arith, cmp_n-by (get_or x 2 0) (get_or k 2 0) Greater e)))
-
-    pub other-number : (get_or x 1 0 ≡ get_or k 1 0 → ⊥) → false ≡ is_equal (cmp_cell x k)
-    other-number n = rw past_head (go (cmp_n (get_or x 1 0) (get_or k 1 0)) refl)
-      where
-        go : (o : Order) → cmp_n (get_or x 1 0) (get_or k 1 0) ≡ o → false ≡ is_equal (and_then o (cmp_n (get_or x 2 0) (get_or k 2 0)))
-        go Less e = refl
-        go Equal e = absurd (n (cmp_n-by (get_or x 1 0) (get_or k 1 0) Equal e))
-        go Greater e = refl
-
   pub other-head : (get_or x 0 0 ≡ get_or k 0 0 → ⊥) → false ≡ is_equal (cmp_cell x k)
   unfolding cmp_cell
   other-head n = go (cmp_n (get_or x 0 0) (get_or k 0 0)) refl
     where
       go
-          : (o : Order) → cmp_n (get_or x 0 0) (get_or k 0 0) ≡ o
+          : (o : Ordering) → cmp_n (get_or x 0 0) (get_or k 0 0) ≡ o
           → false ≡ is_equal (and_then o (and_then (cmp_n (get_or x 1 0) (get_or k 1 0)) (cmp_n (get_or x 2 0) (get_or k 2 0))))
       go Less e = refl
       go Equal e = absurd (n (cmp_n-by (get_or x 0 0) (get_or k 0 0) Equal e))
@@ -232,13 +181,3 @@ with-count x w p =
       cell = rw p.cell;
       back = ap (λ (v : List ℕ). entry_of (set v 3 x.count)) p.cell ∙ (λ i. record { envelope = q i; count = x.count });
     }
-
--- ---- back: a Deliver by its tag, any other message an Ack
-pub is-deliver : (t n p : ℕ) → t ≡ 0 → ◌≡◌ {A = Message} (Deliver (record { 0 = n }) (record { 0 = p })) (message_of t n p)
-unfolding message_of
-is-deliver t n p e = rw e
-
-pub is-ack : (t n p : ℕ) → (t ≡ 0 → ⊥) → ◌≡◌ {A = Message} (Ack (record { 0 = n })) (message_of t n p)
-unfolding message_of
-is-ack zero n p e = absurd (e refl)
-is-ack (suc t) n p e = refl

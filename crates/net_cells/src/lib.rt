@@ -16,23 +16,20 @@ pub const TAGS: u64 = 4;
 // A payload is less than this.
 const PAYLOADS: u64 = 4294967296;
 
-fn head_with(src: u8, dst: u8, tag: u64) -> u64
+fn head_with(src: Id, dst: Id, tag: u64) -> u64
     requires { tag < tags }
-    ensures { result ≡ head_with src dst tag }
+    ensures { result ≡ head_with src.0 dst.0 tag }
 {
-    ((src as u64) * 256 + (dst as u64)) * TAGS + tag
+    ((src.0 as u64) * 256 + (dst.0 as u64)) * TAGS + tag
 }
 
-// An envelope once.
+// An envelope once. These are functions and no From or TryFrom: neither an array nor an entry is a type of this crate.
 pub fn cell_of(e: Envelope) -> [u64; 4]
     ensures { Packed (single e) result }
 {
-    let m = e.msg;
-    let s = e.src;
-    let d = e.dst;
-    match m {
-        Message::Deliver(n, p) => [head_with(s.0, d.0, 0), n.0, p.0 as u64, 1],
-        Message::Ack(n) => [head_with(s.0, d.0, 1), n.0, 0, 1],
+    match e.msg {
+        Message::Deliver(n, p) => [head_with(e.src, e.dst, 0), n.0, p.0 as u64, 1],
+        Message::Ack(n) => [head_with(e.src, e.dst, 1), n.0, 0, 1],
     }
 }
 
@@ -40,34 +37,35 @@ pub fn cell_of(e: Envelope) -> [u64; 4]
 pub fn cell_with(x: Entry) -> [u64; 4]
     ensures { Packed x result }
 {
-    let e = x.envelope;
-    let mut w = cell_of(e);
+    let mut w = cell_of(x.envelope);
     w[3] = x.count as u64;
     w
 }
 
+#[tactic(auto, unfolding(crate::specs::Cells::message_of))]
 fn message_of(tag: u64, number: u64, payload: u64) -> Message
     ensures { result ≡ message_of tag number (payload % payloads) }
 {
-    if tag == 0 {
-        return Message::Deliver(Number(number), Payload((payload % PAYLOADS) as u32));
+    match tag {
+        0 => Message::Deliver(Number(number), Payload((payload % PAYLOADS) as u32)),
+        _ => Message::Ack(Number(number)),
     }
-    Message::Ack(Number(number))
 }
 
 // The entry that a cell is.
+#[tactic(auto, unfolding(crate::specs::Cells::entry_of))]
 pub fn entry_of(c: [u64; 4]) -> Entry
     requires { get_or c 3 0 ≤ most_copies }
     ensures { result ≡ entry_of c }
 {
-    let m = message_of(c[0] % TAGS, c[1], c[2]);
+    let [head, number, payload, count] = c;
     Entry {
         envelope: Envelope {
-            src: Id((c[0] / (256 * TAGS) % 256) as u8),
-            dst: Id((c[0] / TAGS % 256) as u8),
-            msg: m,
+            src: Id((head / (256 * TAGS) % 256) as u8),
+            dst: Id((head / TAGS % 256) as u8),
+            msg: message_of(head % TAGS, number, payload),
         },
-        count: c[3] as u16,
+        count: count as u16,
     }
 }
 
@@ -84,34 +82,18 @@ pub fn zero_entry() -> Entry
     }
 }
 
-// x stands before k.
+// x stands before k. Word by word: two slices or two tuples compare the same words and take longer.
+#[tactic(auto, unfolding(crate::specs::Cells::cmp_cell))]
 pub fn before(x: [u64; 4], k: [u64; 4]) -> bool
     ensures { result ≡ is_less (cmp_cell x k) }
 {
-    if x[0] < k[0] {
-        return true;
-    }
-    if k[0] < x[0] {
-        return false;
-    }
-    if x[1] < k[1] {
-        return true;
-    }
-    if k[1] < x[1] {
-        return false;
-    }
-    x[2] < k[2]
+    x[0] < k[0] || x[0] == k[0] && (x[1] < k[1] || x[1] == k[1] && x[2] < k[2])
 }
 
-// The same envelope.
+// The same envelope, word by word for the same reason.
+#[tactic(auto, unfolding(crate::specs::Cells::cmp_cell))]
 pub fn same(x: [u64; 4], k: [u64; 4]) -> bool
     ensures { result ≡ is_equal (cmp_cell x k) }
 {
-    if x[0] != k[0] {
-        return false;
-    }
-    if x[1] != k[1] {
-        return false;
-    }
-    x[2] == k[2]
+    x[0] == k[0] && x[1] == k[1] && x[2] == k[2]
 }

@@ -3,13 +3,13 @@
 use Prim.Native.Nat.{ℕ, zero, suc, ◌-◌}
 use native.Mathlib.Omega.{arith}
 use mathlib.Core.Path.{◌≡◌, refl, sym, ap, ◌∙◌}
-use mathlib.Core.Bool.{Bool, true, and_assoc}
-use mathlib.Core.List.{List, [], ◌∷◌, ◌++◌}
+use mathlib.Core.Bool.{Bool, true, ◌&&◌, and_assoc, and-true}
+use mathlib.Core.List.{List, ◌++◌}
 use lib.ListN.{length, drop, replicate, length-take, length-drop, take-append-drop}
-use lib.Seq.{slice, take_all, drop_at}
+use lib.Seq.{drop_at}
 use lib.Dec.{leb, eqb}
 use borrow.Author.Tests.{eqb-true, leb-true, le-leb}
-use Rattle.lists.specs.Lists.{all, chain, every, pad}
+use Rattle.lists.specs.Lists.{all, every, pad}
 use Rattle.lists.proofs.Members.{and_both}
 use Rattle.lists.proofs.Places.{laid-length}
 use Rattle.lists.proofs.Walks.{all_same}
@@ -17,11 +17,10 @@ use Rattle.types.specs.declared.Entry.{Entry}
 use Rattle.types.specs.Capacities.{most_entries}
 use Rattle.types.specs.Order.{same, cmp_envelope}
 use Rattle.types.proofs.Laws.{same-is}
-use Rattle.rules.specs.WellFormed.{in_order, last_ok, net_ok}
+use Rattle.rules.specs.WellFormed.{last_ok, net_ok}
 use Rattle.net_network.specs.declared.Network.{Network}
 use Rattle.net_network.specs.Views.{zero_entry, entry_list, NetLaid}
-use Rattle.net_formed.specs.declared.Test.TheVariants.{Unused, Source, Count}
-use Rattle.net_formed.specs.Formed.{zeroed, pass_of, laid_out, net_formed}
+use Rattle.net_formed.specs.Formed.{zeroed, parts_fine, laid_out, net_formed}
 
 -- ---- a zero entry, and a list of them
 zeroed-is : (x : Entry) → zeroed x ≡ true → x ≡ zero_entry
@@ -66,24 +65,16 @@ module _ (n : Network) (room : length n.entries ≡ most_entries) where
       let d : unused ≡ replicate (most_entries - length (entry_list n)) zero_entry = ap (drop n.used) h.rest ∙ drop_at (entry_list n) _ n.used v in
       rw (le-leb n.used most_entries h.fit, d) (zeros (most_entries - length (entry_list n)))
 
-  -- ---- the six parts, as the code asks them
-  abbrev asked : ℕ → List Bool
-  asked k =
-      leb n.used most_entries
-      ∷ all (pass_of Unused) (slice n.used most_entries n.entries)
-      ∷ all (pass_of (Source k)) (slice 0 n.used n.entries)
-      ∷ all (pass_of (Count n.kind)) (slice 0 n.used n.entries)
-      ∷ chain (in_order n.kind) (entry_list n)
-      ∷ last_ok k n.kind n.last ∷ []
+  -- ---- an answer that is the parts' is the test's, and is true of networks that are laid out alone
+  abbrev asked : ℕ → Bool
+  asked k = leb n.used most_entries && (all zeroed unused && parts_fine n.kind k (entry_list n) n.last)
 
-  parts : (k : ℕ) → net_formed n k ≡ every (asked k)
-  unfolding net_formed laid_out net_ok pass_of every
+  parts : (k : ℕ) → net_formed n k ≡ asked k
+  unfolding net_formed laid_out net_ok every
   parts k =
-      let s : slice n.used most_entries n.entries ≡ unused = ap (drop n.used) (take_all most_entries n.entries (omega arith)) in
       let t : leb (length (entry_list n)) most_entries ≡ true
       = le-leb (length (entry_list n)) most_entries (omega (arith, length-take n.used n.entries)) in
-      and_assoc (leb n.used most_entries) (all zeroed unused) _ ∙ rw (s, t)
+      and_assoc (leb n.used most_entries) (all zeroed unused) _ ∙ rw (t, and-true (last_ok k n.kind n.last))
 
-  -- ---- an answer that is the parts' is the test's, and is true of networks that are laid out alone
-  pub told : (k : ℕ) (r : Bool) → every (asked k) ≡ r → (r ≡ net_formed n k) × (r ≡ true → NetLaid n)
+  pub told : (k : ℕ) (r : Bool) → asked k ≡ r → (r ≡ net_formed n k) × (r ≡ true → NetLaid n)
   told k r e = (sym (parts k ∙ e), λ t. formed-laid k (parts k ∙ e ∙ t))

@@ -7,7 +7,7 @@ use mathlib.Core.Bool.{true}
 use mathlib.Core.List.Memᴰ
 use mathlib.Core.List.{List, [], ◌∷◌, ◌++◌, map}
 use lib.ListN.{length, take, get_or, length-map}
-use lib.Seq.{take-append_seam, length-take-le, get_or-take}
+use lib.Seq.{take-append_seam}
 use lib.Dec.{leb}
 use borrow.Author.Tests.{leb-true}
 use Rattle.lists.specs.Lists.{all, pad}
@@ -29,14 +29,12 @@ module _ {A B : Type 0} (f : A → B) (d : A) (es : List A) (i : ℕ) (h : i < l
 
 -- the count of a used cell can be read
 pub count_fits
-    : (cs : List (List ℕ)) (used i : ℕ) → i < used → used ≤ length cs → all (λ x. leb x.count most_copies) (map entry_of (take used cs)) ≡ true
-    → get_or (get_or cs i []) 3 0 ≤ most_copies
+    : (l : List (List ℕ)) (i : ℕ) → i < length l → all (λ x. leb x.count most_copies) (map entry_of l) ≡ true
+    → get_or (get_or l i []) 3 0 ≤ most_copies
 unfolding entry_of
-count_fits cs used i h k e =
-    let l = take used cs in
-    let v = length-take-le used cs k in
-    let m = all_in (λ x. leb x.count most_copies) (map entry_of l) e (entry_of (get_or l i [])) (Memᴰ.map entry_of (get_in l i [] (omega arith))) in
-    rw (get_or-take used cs i [] h) at (leb-true (get_or (get_or l i []) 3 0) most_copies m)
+count_fits l i h e =
+    let m = all_in (λ x. leb x.count most_copies) (map entry_of l) e (entry_of (get_or l i [])) (Memᴰ.map entry_of (get_in l i [] h)) in
+    leb-true (get_or (get_or l i []) 3 0) most_copies m
 
 -- ---- the cells that were laid out
 module _ {l : List Entry} {cs : List (List ℕ)} (out : LaidOut l cs) (few : length l ≤ most_entries) where

@@ -12,32 +12,27 @@ use net_cells::{cell_with, entry_of, zero_entry};
 use types::{Entry, MOST_ENTRIES};
 
 // The used entries as cells; the other cells are zero.
+#[tactic(auto, unfolding(lists::specs::Lists::pad))]
 pub fn cells_of(entries: [Entry; MOST_ENTRIES], used: usize) -> [[u64; 4]; MOST_ENTRIES]
     requires { used ≤ most_entries }
     ensures { LaidOut (take used entries) result }
 {
     let mut cs = [[0u64; 4]; MOST_ENTRIES];
-    let mut i = 0;
-    while i < used {
-        let x = entries[i];
-        cs[i] = cell_with(x);
-        i += 1;
+    for (i, x) in entries[..used].iter().enumerate() {
+        cs[i] = cell_with(*x);
     }
     cs
 }
 
 // The entries that the used cells are; the other entries are zero.
+#[tactic(auto, unfolding(lists::specs::Lists::pad))]
 pub fn entries_of(c: &[[u64; 4]], used: usize) -> [Entry; MOST_ENTRIES]
     requires { Readable c.now used }
     ensures { result ≡ pad most_entries zero_entry (map entry_of (take used c.now)) }
 {
-    let z = zero_entry();
-    let mut es = [z; MOST_ENTRIES];
-    let mut i = 0;
-    while i < used {
-        let x = c[i];
-        es[i] = entry_of(x);
-        i += 1;
+    let mut es = [zero_entry(); MOST_ENTRIES];
+    for (i, x) in c[..used].iter().enumerate() {
+        es[i] = entry_of(*x);
     }
     es
 }

@@ -7,8 +7,8 @@ use mathlib.Core.List.Memᴰ
 use mathlib.Core.List.{List, [], ◌∷◌, map}
 use Rattle.lists.specs.Lists.{◌∈◌, choose, keep, chain}
 use Rattle.lists.proofs.Members.{and_both, in-choose, not-true}
-use Rattle.types.specs.declared.Order.{Order}
-use Rattle.types.specs.declared.Order.TheVariants.{Less, Equal, Greater}
+use Rattle.std.specs.declared.cmp.Ordering.{Ordering}
+use Rattle.std.specs.declared.cmp.Ordering.TheVariants.{Less, Equal, Greater}
 use Rattle.types.specs.declared.Envelope.{Envelope}
 use Rattle.types.specs.declared.Entry.{Entry}
 use Rattle.types.specs.declared.Kind.TheVariants.{Ordered}
@@ -23,10 +23,10 @@ flow-less : (a b : Envelope) → not (is_less (cmp_flow b a)) ≡ true → not (
 unfolding cmp_flow
 flow-less a b h k = go (lex (flow_key a) (flow_key b)) refl k
   where
-    go : (o : Order) → lex (flow_key a) (flow_key b) ≡ o → not (is_equal o) ≡ true → is_less o ≡ true
+    go : (o : Ordering) → lex (flow_key a) (flow_key b) ≡ o → not (is_equal o) ≡ true → is_less o ≡ true
     go Less e q = refl
     go Equal e q = absurd (false≢true q)
-    go Greater e q = absurd (false≢true (sym (ap (λ (o : Order). not (is_less o)) (lex-flip (flow_key a) (flow_key b) e)) ∙ h))
+    go Greater e q = absurd (false≢true (sym (ap (λ (o : Ordering). not (is_less o)) (lex-flip (flow_key a) (flow_key b) e)) ∙ h))
 
 -- Not after, and then before.
 flow-up : (a b c : Envelope) → not (is_less (cmp_flow b a)) ≡ true → is_less (cmp_flow b c) ≡ true → is_less (cmp_flow a c) ≡ true
@@ -73,6 +73,6 @@ fronts-are p [] h = refl
 fronts-are p (x ∷ l) h =
     let o = and_both (not (is_less (cmp_flow x.envelope p.envelope))) _ h in
     let other : (f : Envelope) → f ∈ breaks x l → changes p.envelope f ≡ true
-    = λ f m. ap (λ (t : Order). not (is_equal t)) (less-is (cmp_flow p.envelope f) (flow-up p.envelope x.envelope f o.0 (later x l o.1 f m))) in
+    = λ f m. ap (λ (t : Ordering). not (is_equal t)) (less-is (cmp_flow p.envelope f) (flow-up p.envelope x.envelope f o.0 (later x l o.1 f m))) in
     let rest : keep (changes p.envelope) (breaks x l) ≡ breaks x l = keep_all (changes p.envelope) (breaks x l) other in
     ap (λ (r : List Envelope). p.envelope ∷ keep (changes p.envelope) r) (fronts-are x l o.1) ∙ rw rest

@@ -1,4 +1,4 @@
-pub mod Loops
 pub mod Fronts
 pub mod Walks
 pub mod Theorems
+pub mod Loops

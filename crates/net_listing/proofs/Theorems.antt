@@ -98,9 +98,9 @@ module _ {C A : Type 0} (ends : C → Type 0) (tells : C → A → C → Type 0)
 pub listed-one : (n : Network) (c : Cursor) (l m : List Envelope) → Listed n c l → Listed n c m → l ≡ m
 listed-one n c l m v w = walk-one _ _
     (λ c d a e t. let z : ◌≡◌ {A = ℕ} 0 1 = cc in omega arith)
-    (λ c d e a b t u. (cc, cc)) c l m v w
+    (λ c d e a b t u. let z : ◌≡◌ {A = Envelope × Cursor} (a, d) (b, e) = cc in (ap (λ p. p.0) z, ap (λ p. p.1) z)) c l m v w
 
 pub offered-one : (n : Network) (i : ℕ) (l m : List Envelope) → Offered n i l → Offered n i m → l ≡ m
 offered-one n i l m v w = walk-one _ _
     (λ c d a e t. let z : ◌≡◌ {A = ℕ} 0 1 = cc in omega arith)
-    (λ c d e a b t u. (cc, cc)) i l m v w
+    (λ c d e a b t u. let z : ◌≡◌ {A = Envelope × ℕ} (a, d) (b, e) = cc in (ap (λ p. p.0) z, ap (λ p. p.1) z)) i l m v w

@@ -5,6 +5,7 @@ use native.Mathlib.Omega.{arith}
 use native.Mathlib.Numerals.{add-one}
 use mathlib.Core.Path.{◌≡◌, refl, sym, ap, ◌∙◌}
 use mathlib.Core.Bool.{Bool, true, false}
+use Rattle.std.specs.Prelude.{Some, None}
 use mathlib.Core.List.{List, [], ◌∷◌, ◌++◌}
 use lib.ListN.{length, drop, get_or, replicate, length-append, length-replicate, get_or-append, get_or-replicate}
 use lib.Seq.{drop-cons, drop-nil, drop-drop, drop-append-add}
@@ -17,8 +18,6 @@ use Rattle.rules.specs.Network.{listing}
 use Rattle.net_network.specs.declared.Network.{Network}
 use Rattle.net_network.specs.Views.{zero_entry, entry_list}
 use Rattle.net_listing.specs.declared.Cursor.{Cursor}
-use Rattle.net_listing.specs.declared.Step.TheVariants as step
-use Rattle.net_listing.specs.declared.Offer.TheVariants as offer
 use Rattle.net_listing.specs.Walk.{Walk, over, on}
 use Rattle.net_listing.specs.Listing.{listed_from, listed_next, shows, offered_from, offered_next}
 
@@ -30,7 +29,7 @@ walk_same f g (on t w) = on (g _ _ t) w
 
 -- ---- the full listing
 abbrev pub Listed : Network → Cursor → List Envelope → Type 0
-Listed n = Walk (λ (c : Cursor). listed_next n c ≡ step.End) (λ (c : Cursor) (e : Envelope) (d : Cursor). listed_next n c ≡ step.Next e d)
+Listed n = Walk (λ (c : Cursor). listed_next n c ≡ None) (λ (c : Cursor) (e : Envelope) (d : Cursor). listed_next n c ≡ Some (e, d))
 
 drop_past : {A : Type 0} (m k : ℕ) (a : A) (l : List A) → m ≤ k → drop k (replicate m a ++ l) ≡ drop (k - m) l
 drop_past {A = A} m k a l h =
@@ -76,7 +75,7 @@ module _ (n : Network) where
 
 -- ---- the deliverable listing
 abbrev pub Offered : Network → ℕ → List Envelope → Type 0
-Offered n = Walk (λ (i : ℕ). offered_next n i ≡ offer.End) (λ (i : ℕ) (e : Envelope) (j : ℕ). offered_next n i ≡ offer.Next e j)
+Offered n = Walk (λ (i : ℕ). offered_next n i ≡ None) (λ (i : ℕ) (e : Envelope) (j : ℕ). offered_next n i ≡ Some (e, j))
 
 -- The envelopes at those of m places from at on that are shown.
 unfoldable pub shown : Kind → List Entry → ℕ → ℕ → List Envelope
@@ -93,7 +92,7 @@ module _ (n : Network) where
   offered-left (suc m) at h = go (shows n.kind L at) refl (offered-left m (at + 1) (omega arith))
     where
       next : (b : Bool) → shows n.kind L at ≡ b → offered_next n at
-          ≡ choose b (offer.Next (get_or L at zero_entry).envelope (at + 1)) (offered_next n (at + 1))
+          ≡ choose b (Some ((get_or L at zero_entry).envelope, at + 1)) (offered_next n (at + 1))
       next b e = let k : length L - (at + 1) ≡ m = omega arith in rw (h, k, e)
 
       go : (b : Bool) → shows n.kind L at ≡ b → Offered n (at + 1) (shown n.kind L m (at + 1))

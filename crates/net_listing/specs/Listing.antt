@@ -1,7 +1,8 @@
 -- What the two listings answer at a place. That a walk from the first place to the end gives the rules' lists is proofs/Theorems.
 -- Assumes nothing.
-use Rattle.std.specs.Prelude.{ℕ, zero, suc, ◌+◌, ◌-◌, Bool, true, not, ◌||◌, List, [], ◌∷◌, length, drop, get_or, ltb, eqb}
+use Rattle.std.specs.Prelude.{ℕ, zero, suc, ◌+◌, ◌-◌, ◌≤◌, ◌<◌, ◌≡◌, Bool, true, false, not, ◌||◌, Option, Some, None, List, [], ◌∷◌, length, drop, get_or, ltb, eqb}
 use Rattle.lists.specs.Lists.{choose}
+use Rattle.types.specs.declared.Envelope.{Envelope}
 use Rattle.types.specs.declared.Entry.{Entry}
 use Rattle.types.specs.declared.Kind.{Kind}
 use Rattle.types.specs.declared.Kind.TheVariants.{Ordered, UnorderedDuplicating, UnorderedNonDuplicating}
@@ -9,21 +10,17 @@ use Rattle.types.specs.Order.{cmp_flow, is_equal}
 use Rattle.net_network.specs.declared.Network.{Network}
 use Rattle.net_network.specs.Views.{zero_entry, entry_list}
 use Rattle.net_listing.specs.declared.Cursor.{Cursor}
-use Rattle.net_listing.specs.declared.Step.{Step}
-use Rattle.net_listing.specs.declared.Step.TheVariants as step
-use Rattle.net_listing.specs.declared.Offer.{Offer}
-use Rattle.net_listing.specs.declared.Offer.TheVariants as offer
 
 abbrev pub start : Cursor
 start = record { entry = 0; copy = 0 }
 
 -- ---- each envelope as often as it is there
 -- The list begins at the entry at, and k of its envelopes were listed.
-unfoldable pub listed_from : ℕ → ℕ → List Entry → Step
-listed_from at k [] = step.End
-listed_from at k (x ∷ l) = choose (ltb k x.count) (step.Next x.envelope (record { entry = at; copy = k + 1 })) (listed_from (at + 1) (k - x.count) l)
+unfoldable pub listed_from : ℕ → ℕ → List Entry → Option (Envelope × Cursor)
+listed_from at k [] = None
+listed_from at k (x ∷ l) = choose (ltb k x.count) (Some (x.envelope, record { entry = at; copy = k + 1 })) (listed_from (at + 1) (k - x.count) l)
 
-unfoldable pub listed_next : Network → Cursor → Step
+unfoldable pub listed_next : Network → Cursor → Option (Envelope × Cursor)
 listed_next n c = listed_from c.entry c.copy (drop c.entry (entry_list n))
 
 -- ---- what can be delivered
@@ -36,10 +33,18 @@ opens UnorderedNonDuplicating i p x = true
 unfoldable pub shows : Kind → List Entry → ℕ → Bool
 shows k l i = opens k i (get_or l (i - 1) zero_entry) (get_or l i zero_entry)
 
--- The first of m places from at on that is offered.
-unfoldable pub offered_from : Kind → List Entry → ℕ → ℕ → Offer
-offered_from k l zero at = offer.End
-offered_from k l (suc m) at = choose (shows k l at) (offer.Next (get_or l at zero_entry).envelope (at + 1)) (offered_from k l m (at + 1))
+-- No place from at on and before end is offered.
+abbrev pub OffersNone : Kind → List Entry → ℕ → ℕ → Type 0
+OffersNone k l at end = (j : ℕ) → at ≤ j → j < end → shows k l j ≡ false
 
-unfoldable pub offered_next : Network → ℕ → Offer
+-- The place i is the first from at on that is offered.
+abbrev pub IsFirstOffered : Kind → List Entry → ℕ → ℕ → Type 0
+IsFirstOffered k l at i = (at ≤ i) × (i < length l) × (shows k l i ≡ true) × OffersNone k l at i
+
+-- The first of m places from at on that is offered.
+unfoldable pub offered_from : Kind → List Entry → ℕ → ℕ → Option (Envelope × ℕ)
+offered_from k l zero at = None
+offered_from k l (suc m) at = choose (shows k l at) (Some ((get_or l at zero_entry).envelope, at + 1)) (offered_from k l m (at + 1))
+
+unfoldable pub offered_next : Network → ℕ → Option (Envelope × ℕ)
 offered_next n at = offered_from n.kind (entry_list n) (length (entry_list n) - at) at

@@ -1,33 +1,18 @@
 // The network's two listings, each as an index and an answer: all envelopes as often as they are there, and those that can be delivered.
 #![tactic(auto)]
 
-ghost use Rattle.std.specs.Prelude.{◌≡◌, ◌-◌, ◌≤◌, min, take, drop};
-ghost use Rattle.types.specs.Capacities.{most_entries};
-ghost use Rattle.net_listing.specs.Listing.{start, listed_from, listed_next, opens, offered_from, offered_next};
+ghost use Rattle.std.specs.Prelude.{◌≡◌, ◌-◌, ◌<◌, length, take, drop, MatchOption};
+ghost use Rattle.net_listing.specs.Listing.{start, listed_from, listed_next, shows, OffersNone, IsFirstOffered, offered_from, offered_next};
 
 use net_compare::same_flow;
 use net_network::Network;
-use types::{Entry, Envelope, Kind, MOST_ENTRIES};
+use types::{Entry, Envelope, Kind};
 
 // A place in the full listing: an entry, and how many envelopes from that entry on were listed.
-#[derive(Clone, Copy)]
+#[derive(Clone, Copy, Debug, PartialEq, Eq)]
 pub struct Cursor {
     pub entry: usize,
     pub copy: u16,
-}
-
-// The envelope at a place of the full listing, and the place after it.
-#[derive(Clone, Copy)]
-pub enum Step {
-    Next(Envelope, Cursor),
-    End,
-}
-
-// The same of the deliverable listing, where a place is an entry.
-#[derive(Clone, Copy)]
-pub enum Offer {
-    Next(Envelope, usize),
-    End,
 }
 
 pub fn first_place() -> Cursor
@@ -36,93 +21,68 @@ pub fn first_place() -> Cursor
     Cursor { entry: 0, copy: 0 }
 }
 
-// How many places of the array can be in use, whatever the count says.
-fn in_use(used: usize) -> usize
-    ensures { result ≡ min used most_entries }
+// The entries in use, which are no more than there are, whatever the count says.
+fn in_use(entries: &[Entry], used: usize) -> &[Entry]
+    ensures { result.now ≡ take used entries.now }
 {
-    if used < MOST_ENTRIES {
-        return used;
-    }
-    MOST_ENTRIES
+    let end = used.min(entries.len());
+    &entries[..end]
 }
 
-fn listed_from(entries: [Entry; MOST_ENTRIES], used: usize, at: usize, copy: u16) -> Step
-    requires { used ≤ most_entries }
-    ensures { result ≡ listed_from at copy (drop at (take used entries)) }
+fn listed_from(entries: &[Entry], at: usize, copy: u16) -> Option<(Envelope, Cursor)>
+    ensures { result ≡ listed_from at copy (drop at entries.now) }
 {
-    let mut i = at;
+    let left = entries.get(at..)?;
     let mut k = copy;
-    while i < used {
-        let here = entries[i];
+    for (i, here) in left.iter().enumerate() {
         if k < here.count {
-            let e = here.envelope;
             let next = Cursor {
-                entry: i,
+                entry: at + i,
                 copy: k + 1,
             };
-            return Step::Next(e, next);
+            return Some((here.envelope, next));
         }
         k -= here.count;
-        i += 1;
     }
-    Step::End
+    None
 }
 
-// The full listing from a cursor on. Past the last envelope the answer is End, for any cursor.
-pub fn next_listed(n: Network, c: Cursor) -> Step
+// The full listing from a cursor on: the envelope there, and the place after it. Past the last envelope there is none, for any cursor.
+pub fn next_listed(n: Network, c: Cursor) -> Option<(Envelope, Cursor)>
     ensures { result ≡ listed_next n c }
 {
-    let entries = n.entries;
-    let used = in_use(n.used);
-    listed_from(entries, used, c.entry, c.copy)
+    listed_from(in_use(&n.entries, n.used), c.entry, c.copy)
 }
 
-// The place before, or the first.
-fn place_before(i: usize) -> usize
-    ensures { result ≡ i - 1 }
-{
-    if i == 0 {
-        return 0;
-    }
-    i - 1
-}
-
-// Whether the entry at i is offered, p the entry before it.
-fn is_offered(kind: Kind, i: usize, p: Entry, x: Entry) -> bool
-    ensures { result ≡ opens kind i p x }
+// Whether the entry at i is offered.
+fn is_offered(kind: Kind, entries: &[Entry], i: usize) -> bool
+    requires { i < length entries.now }
+    ensures { result ≡ shows kind entries.now i }
 {
     match kind {
-        Kind::Ordered => i == 0 || !same_flow(p.envelope, x.envelope),
-        Kind::UnorderedDuplicating => true,
-        Kind::UnorderedNonDuplicating => true,
+        Kind::Ordered => i == 0 || !same_flow(entries[i - 1].envelope, entries[i].envelope),
+        Kind::UnorderedDuplicating | Kind::UnorderedNonDuplicating => true,
     }
 }
 
-fn offered_from(kind: Kind, entries: [Entry; MOST_ENTRIES], used: usize, at: usize) -> Offer
-    requires { used ≤ most_entries }
-    ensures { result ≡ offered_from kind (take used entries) (used - at) at }
+// The first place from one on that is offered.
+fn first_offered(kind: Kind, entries: &[Entry], at: usize) -> Option<usize>
+    ensures { MatchOption result (OffersNone kind entries.now at (length entries.now)) (IsFirstOffered kind entries.now at) }
 {
-    let mut i = at;
-    while i < used {
-        let before = place_before(i);
-        let p = entries[before];
-        let here = entries[i];
-        if is_offered(kind, i, p, here) {
-            let e = here.envelope;
-            return Offer::Next(e, i + 1);
-        }
-        i += 1;
-    }
-    Offer::End
+    (at..entries.len()).find(|i| is_offered(kind, entries, *i))
 }
 
-// The deliverable listing from an entry on: the whole set, each distinct envelope once, or the front of each flow.
-// On kind 0 the entries of a flow stand together in a well-formed network, so that the entry before tells a front.
-pub fn next_deliverable(n: Network, at: usize) -> Offer
+fn offered_from(kind: Kind, entries: &[Entry], at: usize) -> Option<(Envelope, usize)>
+    ensures { result ≡ offered_from kind entries.now (length entries.now - at) at }
+{
+    let i = first_offered(kind, entries, at)?;
+    Some((entries[i].envelope, i + 1))
+}
+
+// The deliverable listing from an entry on: the whole set, each distinct envelope once, or the front of each flow. The answer is the
+// envelope and the place after it. On kind 0 the entries of a flow stand together in a well-formed network, so that the entry before tells a front.
+pub fn next_deliverable(n: Network, at: usize) -> Option<(Envelope, usize)>
     ensures { result ≡ offered_next n at }
 {
-    let kind = n.kind;
-    let entries = n.entries;
-    let used = in_use(n.used);
-    offered_from(kind, entries, used, at)
+    offered_from(n.kind, in_use(&n.entries, n.used), at)
 }

@@ -1,6 +1,7 @@
--- The answers as document 01 says them: a kind's own name gives 0 and the kind, any other bytes 12; what is written is read back.
+-- What the answers are: a kind's own name gives 0 and the kind, any other bytes 12; what is written is read back.
 -- Assumes nothing.
 use Prim.Native.Nat.{ℕ, zero, suc, ◌≤◌, ◌<◌}
+use Rattle.std.specs.Prelude.{Some, None, Result, Ok}
 use native.Mathlib.Omega.{arith}
 use mathlib.Core.Path.{◌≡◌, refl, sym, ap, ◌∙◌}
 use mathlib.Core.Bool.{Bool, true, false}
@@ -15,18 +16,16 @@ use Rattle.types.specs.declared.Kind.TheVariants.{Ordered, UnorderedDuplicating,
 use Rattle.rules.specs.Outcome.{Outcome, done, refused}
 use Rattle.rules.specs.Network.{kind_of, name_of, names, same_bytes, kind_named}
 use Rattle.rules.proofs.Network.{named, only-named}
-use Rattle.net_names.specs.declared.Named.{Named}
-use Rattle.net_names.specs.declared.Named.TheVariants.{Known}
-use Rattle.net_names.specs.declared.Listed.TheVariants.{Name, End}
+use Rattle.net_names.specs.declared.UnknownName.{UnknownName}
 use Rattle.net_names.specs.Names.{named_of, outcome_number, outcome_kinds, named_number, named_kinds, written_as, left_on, first_listed, first_left}
 
-pub own_name : (k : Kind) → named_of (kind_named (name_of k)) ≡ Known k
+pub own_name : (k : Kind) → named_of (kind_named (name_of k)) ≡ Ok k
 own_name k = ap named_of (named k)
 
-pub known-name : (name : List ℕ) (k : Kind) → named_of (kind_named name) ≡ Known k → name ≡ name_of k
+pub known-name : (name : List ℕ) (k : Kind) → named_of (kind_named name) ≡ Ok k → name ≡ name_of k
 known-name name k e = go (kind_named name) refl e
   where
-    go : (o : Outcome Kind) → kind_named name ≡ o → named_of o ≡ Known k → name ≡ name_of k
+    go : (o : Outcome Kind) → kind_named name ≡ o → named_of o ≡ Ok k → name ≡ name_of k
     go (done j) h q = let z : j ≡ k = cc in only-named name k (h ∙ ap (λ (i : Kind). done i) z)
     go (refused n) h q = let z : ◌≡◌ {A = ℕ} 0 1 = cc in absurd (omega arith)
 
@@ -44,18 +43,18 @@ numbered name = go (same_bytes name (name_of Ordered)) (same_bytes name (name_of
     go false false true = (refl, refl)
     go false false false = (refl, refl)
 
--- What is refused is refused as 12, the number of Unknown.
+-- What is refused is refused as 12, the number of `UnknownName`.
 pub refused-number : (name : List ℕ) (n : ℕ) → kind_named name ≡ refused n → n ≡ 12
 refused-number name n e = sym (rw e at (numbered name).0)
 
 pub named-all
-    : (name : List ℕ) {r : Named} → r ≡ named_of (kind_named name)
+    : (name : List ℕ) {r : Result Kind UnknownName} → r ≡ named_of (kind_named name)
     → (r ≡ named_of (kind_named name)) × ((named_number r ≡ outcome_number (kind_named name)) × (named_kinds r ≡ outcome_kinds (kind_named name)))
 named-all name e = (e, (ap named_number e ∙ (numbered name).0, ap named_kinds e ∙ (numbered name).1))
 
 -- What is written into a buffer that it fits is the name whole, and is read back as the kind.
 pub written_read : (k : Kind) (out : List ℕ) → length (name_of k) ≤ length out → named_of (kind_named (take (length (name_of k)) (left_on (name_of k) out)))
-    ≡ Known k
+    ≡ Ok k
 unfolding left_on choose
 written_read k out h = rw (le-leb (length (name_of k)) (length out) h, take-append_seam (name_of k) (drop (length (name_of k)) out)) (own_name k)
 
@@ -100,7 +99,7 @@ listed-once i j h k e =
 -- A walk by `names`: at each place of the list the name is written whole into a buffer that it fits; then comes the end.
 pub listed-written
     : (i : ℕ) (out : List ℕ) → i < length names → length (get_or names i []) ≤ length out
-    → (first_listed (drop i names) out ≡ Name (length (get_or names i [])))
+    → (first_listed (drop i names) out ≡ Some (Ok (length (get_or names i []))))
     × (take (length (get_or names i [])) (first_left (drop i names) out) ≡ get_or names i [])
 unfolding names left_on written_as choose
 listed-written i out h l =
@@ -108,5 +107,5 @@ listed-written i out h l =
     let d : drop i names ≡ n ∷ drop (suc i) names = drop-cons names i [] h in
     (rw (d, le-leb (length n) (length out) l), rw (d, le-leb (length n) (length out) l) (take-append_seam n (drop (length n) out)))
 
-pub listed-ends : (i : ℕ) (out : List ℕ) → length names ≤ i → first_listed (drop i names) out ≡ End
+pub listed-ends : (i : ℕ) (out : List ℕ) → length names ≤ i → first_listed (drop i names) out ≡ None
 listed-ends i out h = ap (λ (l : List (List ℕ)). first_listed l out) (drop_of_length-le names h)

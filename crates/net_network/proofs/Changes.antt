@@ -13,7 +13,7 @@ use Rattle.lists.proofs.Places.{laid-length}
 use Rattle.types.specs.declared.Envelope.{Envelope}
 use Rattle.types.specs.declared.Kind.{Kind}
 use Rattle.types.specs.declared.Kind.TheVariants.{Ordered, UnorderedDuplicating, UnorderedNonDuplicating}
-use Rattle.types.specs.declared.LastMessage.{LastMessage}
+use Rattle.std.specs.Prelude.{Option}
 use Rattle.types.specs.Capacities.{most_entries, most_copies}
 use Rattle.answers.specs.Answers.{answer_of}
 use Rattle.rules.specs.Outcome.{Outcome, done, guard, Room, base}
@@ -27,10 +27,8 @@ use Rattle.net_rows.specs.Views as rows
 use Rattle.net_rows.proofs.Ready as kept
 use Rattle.net_rows.proofs.Last.{delivered-kind, delivered-last}
 use Rattle.net_network.specs.declared.Network.{Network}
-use Rattle.net_network.specs.declared.Change.{Change}
-use Rattle.net_network.specs.declared.Change.TheVariants.{Send, Drop, Deliver}
 use Rattle.net_network.specs.Views.{zero_entry, entry_list, net_view, network_of, NetLaid, NetReady, back, sent_of}
-use Rattle.net_network.specs.Parts.{read_back, outcome_of, last_of}
+use Rattle.net_network.specs.Parts.{read_back}
 
 module _ (n : Network) (laid : NetLaid n) where
   pub used-is : length (entry_list n) ≡ n.used
@@ -81,14 +79,14 @@ module _ {k : Kind} {cs : List (List ℕ)} {used n : ℕ} (ready : rows.NetReady
   pub readable : Readable cs used
   readable = let f = ready.laid.fit in record { fit = f; few = omega arith; counts = ready.laid.counts }
 
-  pub read_is : (last : LastMessage) → read_back k cs used last ≡ network_of (net_of k last cs used)
+  pub read_is : (last : Option Envelope) → read_back k cs used last ≡ network_of (net_of k last cs used)
   read_is last =
       let v : used ≡ length (rows.entry_list cs used) = sym (length-map (take used cs) entry_of ∙ length-take-le used cs ready.laid.fit) in
       λ i. record { kind = k; entries = pad most_entries zero_entry (rows.entry_list cs used); used = v i; last = last }
 
 -- ---- a change, laid back
 -- The duplicating kind cannot refuse a Deliver; another keeps its last message.
-refused-last : (k : Kind) (e : Envelope) (last : LastMessage) (b : Bool) → (is_duplicating k || b) ≡ false → last_after k e last ≡ last
+refused-last : (k : Kind) (e : Envelope) (last : Option Envelope) (b : Bool) → (is_duplicating k || b) ≡ false → last_after k e last ≡ last
 unfolding is_duplicating
 refused-last Ordered e last b h = refl
 refused-last UnorderedDuplicating e last b h = absurd (true≢false h)
@@ -104,12 +102,12 @@ module _
   abbrev here : Net
   here = net_of n.kind n.last cs n.used
 
-  abbrev LaidBack : LastMessage → Outcome Net → Type 0
+  abbrev LaidBack : Option Envelope → Outcome Net → Type 0
   LaidBack last o = Readable cs' s.used × (back s.answer (read_back n.kind cs' s.used last) ≡ sent_of n o)
 
   -- an outcome that is guarded by one test; where the test fails, the last message has to be the one that was
   guarded-back
-      : (b : Bool) (j : ℕ) (x : Net) (last : LastMessage) → x.kind ≡ n.kind → x.last ≡ last → (b ≡ false → last ≡ n.last)
+      : (b : Bool) (j : ℕ) (x : Net) (last : Option Envelope) → x.kind ≡ n.kind → x.last ≡ last → (b ≡ false → last ≡ n.last)
       → Made (guard b j (done x)) → back s.answer (read_back n.kind cs' s.used last) ≡ sent_of n (guard b j (done x))
   unfolding guard answer_of
   guarded-back true j x last p q f c =
@@ -135,31 +133,24 @@ module _
   before : rows.NetReady n.kind cs n.used count
   before = cells-ready n ready cs out count sum
 
-  send-back : (e : Envelope) → Made (send (room_of cs) e here) → LaidBack n.last (send base.room e (net_view n))
+  pub send-back : (e : Envelope) → Made (send (room_of cs) e here) → LaidBack n.last (send base.room e (net_view n))
   unfolding send sending
   send-back e c = (
     readable-by c (unfold send sending in kept.send-ready n.kind n.last cs n.used count before s cs' e c),
     guarded-back _ 8 _ n.last refl refl (λ _. refl) (as_struct (λ r m. send r e m) c),
   )
 
-  drop-back : (e : Envelope) → Made (on_drop e here) → LaidBack n.last (on_drop e (net_view n))
+  pub drop-back : (e : Envelope) → Made (on_drop e here) → LaidBack n.last (on_drop e (net_view n))
   unfolding on_drop dropping
   drop-back e c = (
     readable-by c (unfold on_drop dropping in kept.drop-ready n.kind n.last cs n.used count before s cs' e c),
     guarded-back _ 3 _ n.last refl refl (λ _. refl) (as_struct (λ r m. on_drop e m) c),
   )
 
-  deliver-back : (e : Envelope) → Made (on_deliver e here) → LaidBack (last_after n.kind e n.last) (on_deliver e (net_view n))
+  pub deliver-back : (e : Envelope) → Made (on_deliver e here) → LaidBack (last_after n.kind e n.last) (on_deliver e (net_view n))
   unfolding on_deliver
   deliver-back e c = (
     readable-by c (unfold on_deliver in kept.deliver-ready n.kind n.last cs n.used count before s cs' e c),
     guarded-back _ 3 (delivering e (net_view n)) _ (delivered-kind e (net_view n)) (delivered-last e (net_view n))
         (refused-last n.kind e n.last (present e (net_view n))) (as_struct (λ r m. on_deliver e m) c),
   )
-
-  pub change-back
-      : (what : Change) (e : Envelope) → Made (outcome_of what (room_of cs) e here)
-      → LaidBack (last_of what n.kind e n.last) (outcome_of what base.room e (net_view n))
-  change-back Send e c = send-back e c
-  change-back Drop e c = drop-back e c
-  change-back Deliver e c = deliver-back e c

@@ -16,7 +16,7 @@ use Rattle.types.specs.declared.Envelope.{Envelope}
 use Rattle.types.specs.declared.Entry.{Entry}
 use Rattle.types.specs.declared.Kind.{Kind}
 use Rattle.types.specs.declared.Kind.TheVariants.{Ordered, UnorderedDuplicating, UnorderedNonDuplicating}
-use Rattle.types.specs.declared.LastMessage.TheVariants.{Delivered}
+use Rattle.std.specs.Prelude.{Some}
 use Rattle.types.specs.Capacities.{most_entries}
 use Rattle.types.specs.Order.{same}
 use Rattle.rules.specs.Outcome.{done, guard, base}
@@ -87,7 +87,7 @@ module _ (m : Net) (o : Orderly m) (e : Envelope) where
   unfolding delivering choose
   delivers = with-few (go (is_duplicating m.kind)) (unfold delivering choose in place.delivers m inner e)
     where
-      go : (b : Bool) → length (choose b (record { kind = m.kind; entries = m.entries; last = Delivered e }) (dropping e m)).entries ≤ most_entries
+      go : (b : Bool) → length (choose b (record { kind = m.kind; entries = m.entries; last = Some e }) (dropping e m)).entries ≤ most_entries
       go true = o.few
       go false = fewer-left
 

@@ -4,7 +4,7 @@ use Rattle.std.specs.Prelude.{◌≤◌, ◌≡◌, Bool, true, List, length, ta
 use Rattle.lists.specs.Lists.{all, chain, pad}
 use Rattle.types.specs.declared.Entry.{Entry}
 use Rattle.types.specs.Capacities.{most_entries}
-use Rattle.answers.specs.declared.Answer.{Answer}
+use Rattle.answers.specs.Answers.{Answer}
 use Rattle.rules.specs.Outcome.{Outcome, base, handed_back}
 use Rattle.rules.specs.Network.{Net}
 use Rattle.rules.specs.WellFormed.{in_order}

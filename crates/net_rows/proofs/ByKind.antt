@@ -18,7 +18,7 @@ use Rattle.types.specs.declared.Envelope.{Envelope}
 use Rattle.types.specs.declared.Entry.{Entry}
 use Rattle.types.specs.declared.Kind.{Kind}
 use Rattle.types.specs.declared.Kind.TheVariants.{Ordered, UnorderedDuplicating, UnorderedNonDuplicating}
-use Rattle.answers.specs.declared.Answer.TheVariants.{Done}
+use Rattle.answers.specs.Answers.{Done}
 use Rattle.answers.specs.Answers.{answer_of}
 use Rattle.types.specs.Order.{lex, cmp_envelope, cmp_flow, is_less, is_equal, same}
 use Rattle.types.proofs.Laws.{and_then-equal, lex-trans, less-is, same-is}
@@ -27,13 +27,12 @@ use Rattle.rules.specs.Network.{single, again, put, sending, send, is_duplicatin
 use Rattle.rules.specs.WellFormed.{in_order}
 use Rattle.rules.proofs.Network.{put-ordered, put-new, put-again, remove-last, remove-one, remove_absent}
 use Rattle.net_rows.specs.Search.{stands, look_up}
-use Rattle.net_rows.specs.declared.Found.TheVariants.{At, Free}
+use Rattle.std.specs.Prelude.{Ok, Err}
 use Rattle.net_slots.proofs.Tests.{any-yes, any-no}
 use Rattle.net_rows.proofs.Lookup.{There, Missing, before, told_at, told_free}
 use Rattle.net_cells.specs.Cells.{zero_entry, cell_of, cmp_cell, flow_of, Packed}
 use Rattle.net_cells.proofs.Laws.{Narrow, cell-order, cell-flows, narrow, narrow-all, lead-cells, chain-cells}
-use Rattle.net_slots.specs.declared.Look.TheVariants.{Before, UpToFlow}
-use Rattle.net_slots.specs.Search.{passes_of, Once}
+use Rattle.net_slots.specs.Search.{stands_before, up_to_flow, Once}
 use Rattle.net_slots.proofs.Laws.{once, flows, flows-trans}
 use Rattle.net_rows.specs.declared.Sent.{Sent}
 use Rattle.net_rows.specs.Views.{entry_list, net_with, net_of, room_of, NetLaid, NetReady, Holds, Changed, Makes, taken_at, TakesOut}
@@ -53,6 +52,12 @@ set-sorted o = let z : ◌≡◌ {A = ℕ} 0 1 = cc in omega arith
 
 pub counted-sorted : UnorderedNonDuplicating ≡ Ordered → ⊥
 counted-sorted o = let z : ◌≡◌ {A = ℕ} 0 1 = cc in omega arith
+
+pub not-duplicating : (k : Kind) → (k ≡ UnorderedDuplicating → ⊥) → is_duplicating k ≡ false
+unfolding is_duplicating
+not-duplicating Ordered n = refl
+not-duplicating UnorderedDuplicating n = absurd (n refl)
+not-duplicating UnorderedNonDuplicating n = refl
 
 -- ---- the cell of an envelope
 pub envelope-is : (e : Envelope) (k : List ℕ) → Packed (single e) k → envelope_in k ≡ e
@@ -134,28 +139,28 @@ module _ {cs : List (List ℕ)} {used n : ℕ} (laid : NetLaid cs used n) where
     same_of x p = ap is_equal (order-of x p) ∙ unfold same in same-turned x.envelope e
 
     -- ---- the searches
-    pub once-before : chain stands l ≡ true → Once (passes_of Before k) used cs
-    once-before s = once ascends ascends-trans cs used laid.fit (cells-ascend s) (passes_of Before k) (λ x y r p. ascends-trans x y k r p)
+    pub once-before : chain stands l ≡ true → Once (stands_before k) (length (take used cs)) (take used cs)
+    once-before s = once ascends ascends-trans (take used cs) (cells-ascend s) (stands_before k) (λ x y r p. ascends-trans x y k r p)
 
     -- a walk over the cells is one over the entries
     walk_is : (p : List ℕ → Bool) (q : Entry → Bool) → ((x : Entry) → Narrow x → p (cell_of x) ≡ q x) → lead p (take used cs) ≡ lead q l
     walk_is p q f = ap (lead p) laid.cells ∙ lead-cells cell_of Narrow p q f l narrow-here
 
-    pub before-is : (at : ℕ) → at ≡ lead (passes_of Before k) (take used cs) → at ≡ lead (before e) l
-    before-is at p = p ∙ walk_is (passes_of Before k) (before e) (λ x q. ap is_less (order-of x q))
+    pub before-is : (at : ℕ) → at ≡ lead (stands_before k) (take used cs) → at ≡ lead (before e) l
+    before-is at p = p ∙ walk_is (stands_before k) (before e) (λ x q. ap is_less (order-of x q))
 
     pub found-is : (at : ℕ) → at < used → (b : Bool) → b ≡ is_equal (cmp_cell (get_or cs at []) k) → same e (get_or l at zero_entry).envelope ≡ b
     found-is at h b p =
         sym (p ∙ ap (λ (x : List ℕ). is_equal (cmp_cell x k)) (at-cell laid at h) ∙ same_of (get_or l at zero_entry) (narrow_at laid at h))
 
-    flow-is : (at : ℕ) → at ≡ lead (passes_of UpToFlow k) (take used cs) → at ≡ lead (λ x. not (is_less (cmp_flow e x.envelope))) l
+    flow-is : (at : ℕ) → at ≡ lead (up_to_flow k) (take used cs) → at ≡ lead (λ x. not (is_less (cmp_flow e x.envelope))) l
     unfolding single
     flow-is at p =
-        p ∙ walk_is (passes_of UpToFlow k) (λ x. not (is_less (cmp_flow e x.envelope)))
+        p ∙ walk_is (up_to_flow k) (λ x. not (is_less (cmp_flow e x.envelope)))
         (λ x q. ap (λ (c : List ℕ). leb (flow_of (cell_of x)) (flow_of c)) alone ∙ cell-flows x (single e) q (narrow k))
 
-    pub once-flow : chain (in_order Ordered) l ≡ true → Once (passes_of UpToFlow k) used cs
-    once-flow s = once flows flows-trans cs used laid.fit (cells-flow s) (passes_of UpToFlow k) (λ x y r p. flows-trans x y k r p)
+    pub once-flow : chain (in_order Ordered) l ≡ true → Once (up_to_flow k) (length (take used cs)) (take used cs)
+    once-flow s = once flows flows-trans (take used cs) (cells-flow s) (up_to_flow k) (λ x y r p. flows-trans x y k r p)
 
     pub differ-is : (at : ℕ) → at ≡ lead (λ x. not (is_equal (cmp_cell x k))) (take used cs) → at ≡ lead (λ x. not (same e x.envelope)) l
     differ-is at p = p ∙ walk_is (λ x. not (is_equal (cmp_cell x k))) (λ x. not (same e x.envelope)) (λ x q. ap not (same_of x q))
@@ -168,44 +173,44 @@ module _ {cs : List (List ℕ)} {used n : ℕ} (laid : NetLaid cs used n) where
     sent-by {r} {cs'} kind f p c last = subst (λ (q : List Entry). Changed cs used n (fitting (room_of cs) kind last q) r cs') (sym p) (c kind last)
 
     pub sent-flow
-        : {r : Sent} {cs' : List (List ℕ)} (at : ℕ) → at ≡ lead (passes_of UpToFlow k) (take used cs) → Enters (ins at (single e)) cs used n r cs'
+        : {r : Sent} {cs' : List (List ℕ)} (at : ℕ) → at ≡ lead (up_to_flow k) (take used cs) → Enters (ins at (single e)) cs used n r cs'
         → Makes (send (room_of cs) e) Ordered cs used n r cs'
     sent-flow at p c = sent-by Ordered (ins at (single e)) (let q = flow-is at p in rw q (put-ordered e zero_entry l)) c
 
     -- by the look-up, where the entries ascend
     module _ {kind : Kind} (sorted : kind ≡ Ordered → ⊥) (order : chain (in_order kind) l ≡ true) (at : ℕ) where
-      there : look_up e l ≡ At at → There e l at
+      there : look_up e l ≡ Ok at → There e l at
       there q = told_at e l (ascend kind sorted l order) at q
 
-      missing : look_up e l ≡ Free at → Missing e l at
+      missing : look_up e l ≡ Err at → Missing e l at
       missing q = told_free e l (ascend kind sorted l order) at q
 
-      pub at-fits : look_up e l ≡ At at → at < used
+      pub at-fits : look_up e l ≡ Ok at → at < used
       at-fits q = let m = (there q).within in let v = sized laid in omega arith
 
-      pub free-fits : look_up e l ≡ Free at → at ≤ used
+      pub free-fits : look_up e l ≡ Err at → at ≤ used
       free-fits q = let m = (missing q).place in let v = sized laid in omega (arith, lead-le (before e) l)
 
       pub sent-free
-          : {r : Sent} {cs' : List (List ℕ)} → look_up e l ≡ Free at → Enters (ins at (single e)) cs used n r cs'
+          : {r : Sent} {cs' : List (List ℕ)} → look_up e l ≡ Err at → Enters (ins at (single e)) cs used n r cs'
           → Makes (send (room_of cs) e) kind cs used n r cs'
       sent-free q c =
           let m = missing q in
           sent-by kind (ins at (single e)) (rw m.place (put-new e zero_entry l kind sorted (rw m.place at m.other))) c
 
-      put-there : look_up e l ≡ At at → put kind e l ≡ set l at (again kind (get_or l at zero_entry))
+      put-there : look_up e l ≡ Ok at → put kind e l ≡ set l at (again kind (get_or l at zero_entry))
       put-there q =
           let m = there q in
           rw m.place (put-again e zero_entry l kind sorted (rw m.place at m.within) (rw m.place at m.found))
 
     pub sent-same
-        : (order : chain (in_order UnorderedDuplicating) l ≡ true) (at : ℕ) → look_up e l ≡ At at
+        : (order : chain (in_order UnorderedDuplicating) l ≡ true) (at : ℕ) → look_up e l ≡ Ok at
         → Makes (send (room_of cs) e) UnorderedDuplicating cs used n (record { answer = Done; used = used; len = n }) cs
     unfolding again
     sent-same o at q = sent-by UnorderedDuplicating (λ m. m) (put-there set-sorted o at q ∙ set-get_or l at zero_entry) (unchanged laid)
 
     pub sent-again
-        : {r : Sent} {cs' : List (List ℕ)} (order : chain (in_order UnorderedNonDuplicating) l ≡ true) (at : ℕ) → look_up e l ≡ At at
+        : {r : Sent} {cs' : List (List ℕ)} (order : chain (in_order UnorderedNonDuplicating) l ≡ true) (at : ℕ) → look_up e l ≡ Ok at
         → Enters (counted_at at) cs used n r cs' → Makes (send (room_of cs) e) UnorderedNonDuplicating cs used n r cs'
     unfolding counted_at
     sent-again o at q c = sent-by UnorderedNonDuplicating (counted_at at) (put-there counted-sorted o at q) c

@@ -6,7 +6,7 @@ use Rattle.lists.specs.Lists.{choose}
 use Rattle.types.specs.declared.Envelope.{Envelope}
 use Rattle.types.specs.declared.Kind.{Kind}
 use Rattle.types.specs.declared.Kind.TheVariants.{Ordered, UnorderedDuplicating, UnorderedNonDuplicating}
-use Rattle.types.specs.declared.LastMessage.TheVariants.{Delivered}
+use Rattle.std.specs.Prelude.{Some}
 use Rattle.rules.specs.Network.{Net, dropping, delivering, is_duplicating}
 use Rattle.net_rows.specs.Views.{last_after}
 
@@ -15,7 +15,7 @@ module _ (e : Envelope) (m : Net) where
   unfolding delivering dropping choose
   delivered-kind = go (is_duplicating m.kind)
     where
-      go : (b : Bool) → (choose b (record { kind = m.kind; entries = m.entries; last = Delivered e }) (dropping e m)).kind ≡ m.kind
+      go : (b : Bool) → (choose b (record { kind = m.kind; entries = m.entries; last = Some e }) (dropping e m)).kind ≡ m.kind
       go true = refl
       go false = refl
 
@@ -24,7 +24,7 @@ module _ (e : Envelope) (m : Net) where
   delivered-last = go m.kind
     where
       go : (k : Kind)
-          → (choose (is_duplicating k) (record { kind = m.kind; entries = m.entries; last = Delivered e }) (dropping e m)).last ≡ last_after k e m.last
+          → (choose (is_duplicating k) (record { kind = m.kind; entries = m.entries; last = Some e }) (dropping e m)).last ≡ last_after k e m.last
       go Ordered = refl
       go UnorderedDuplicating = refl
       go UnorderedNonDuplicating = refl

@@ -17,9 +17,9 @@ use Rattle.rules.proofs.FormedNetwork.{len-most}
 use Rattle.types.specs.declared.Entry.{Entry}
 use Rattle.types.specs.declared.Kind.{Kind}
 use Rattle.types.specs.declared.Kind.TheVariants.{UnorderedNonDuplicating}
-use Rattle.types.specs.declared.LastMessage.{LastMessage}
-use Rattle.answers.specs.declared.Answer.{Answer}
-use Rattle.answers.specs.declared.Answer.TheVariants.{Done, NetworkFull}
+use Rattle.std.specs.Prelude.{Option}
+use Rattle.answers.specs.Answers.{Answer}
+use Rattle.answers.specs.Answers.{Done, NetworkFull}
 use Rattle.answers.specs.Answers.{answer_of}
 use Rattle.types.specs.Capacities.{most_copies}
 use Rattle.rules.specs.Outcome.{Outcome, done, refused, guard, Room}
@@ -30,6 +30,7 @@ use Rattle.net_slots.proofs.Tests.{all-ins, all_set}
 use Rattle.net_cells.proofs.Laws.{Narrow, back-all, narrow, narrow-all}
 use Rattle.net_rows.specs.Views.{entry_list, net_with, room_of, most_room, NetLaid, Holds, Left, Changed, taken_at, TakesOut}
 use Rattle.net_rows.specs.Parts.{envelope_in, Alone, fitting, counted_at, Enters}
+use Rattle.types.specs.declared.Envelope.{Envelope}
 
 -- ---- maps and places
 module _ {A B : Type 0} (f : A → B) where
@@ -90,7 +91,7 @@ unfolding cell_of
 cell-counted x n = refl
 
 -- ---- what fits
-module _ (c : Room) (k : Kind) (last : LastMessage) (l : List Entry) where
+module _ (c : Room) (k : Kind) (last : Option Envelope) (l : List Entry) where
   fitting-done : length l ≤ c.entries → all (λ x. leb x.count c.copies) l ≡ true → fitting c k last l ≡ done (net_with k last l)
   unfolding fits guard
   fitting-done h m = rw (le-leb (length l) c.entries h, m)

@@ -15,7 +15,8 @@ use Rattle.types.specs.declared.Envelope.{Envelope}
 use Rattle.types.specs.declared.Entry.{Entry}
 use Rattle.types.specs.Order.{cmp_envelope, is_less, is_equal, same}
 use Rattle.types.proofs.Laws.{less-is, less-trans, not-up-to}
-use Rattle.net_rows.specs.declared.Found.TheVariants.{At, Free}
+use Rattle.std.specs.Prelude.{Ok, Err}
+use Rattle.std.specs.Result.{result_unwrap_or}
 use Rattle.net_cells.specs.Cells.{zero_entry}
 use Rattle.net_slots.proofs.Tests.{any-yes, any-no, first-at, first-missing}
 use Rattle.net_rows.specs.Search.{stands, look_up}
@@ -55,13 +56,13 @@ module _ (e : Envelope) where
     pub within : at < length l
     pub found : equal (get_or l at zero_entry) ≡ true
     pub first : at ≡ lead (λ x. not (equal x)) l
-    pub look : At at ≡ look_up e l
+    pub look : Ok at ≡ look_up e l
 
   pub record Missing (l : List Entry) (at : ℕ) : Type 0 where
     pub place : at ≡ lead before l
     pub other : at < length l → equal (get_or l at zero_entry) ≡ false
     pub first : length l ≡ lead (λ x. not (equal x)) l
-    pub look : Free at ≡ look_up e l
+    pub look : Err at ≡ look_up e l
 
   module _ (l : List Entry) (at : ℕ) (p : at ≡ lead before l) where
     pub is-there : at < length l → equal (get_or l at zero_entry) ≡ true → There l at
@@ -69,7 +70,7 @@ module _ (e : Envelope) where
     is-there h q =
         let f = first-at equal before (λ x. after-other e x.envelope) zero_entry l (rw p at h) (rw p at q) in
         let w : lead (λ x. not (equal x)) l < length l = omega arith in
-        record { place = p; within = h; found = q; first = p ∙ sym f; look = rw (any-yes equal l w) (ap At p) }
+        record { place = p; within = h; found = q; first = p ∙ sym f; look = rw (any-yes equal l w) (ap Ok p) }
 
     pub is-missing : chain stands l ≡ true → (at < length l → equal (get_or l at zero_entry) ≡ false) → Missing l at
     unfolding look_up choose
@@ -77,7 +78,7 @@ module _ (e : Envelope) where
         let o = chain-sorted stands (λ x y z. less-trans x.envelope y.envelope z.envelope) l s in
         let f = first-missing equal before (λ x. after-other e x.envelope) zero_entry (λ x y. stands x y ≡ true) later-other l o (rw p at q) in
         let w : length l ≤ lead (λ x. not (equal x)) l = omega arith in
-        record { place = p; other = q; first = sym f; look = rw (any-no equal l w) (ap Free p) }
+        record { place = p; other = q; first = sym f; look = rw (any-no equal l w) (ap Err p) }
 
   -- ---- what an answer tells
   module _ (l : List Entry) (s : chain stands l ≡ true) where
@@ -92,10 +93,14 @@ module _ (e : Envelope) where
         go (yes h) false q = inr (is-missing l at refl s (λ _. q))
         go (no h) b q = inr (is-missing l at refl s (λ k. absurd (h k)))
 
-    pub told_at : (i : ℕ) → look_up e l ≡ At i → There l i
+    pub told_at : (i : ℕ) → look_up e l ≡ Ok i → There l i
     told_at i q =
         ⊎_elim (λ t. let z : at ≡ i = cc t.look in rw z at t) (λ t. let z : ◌≡◌ {A = ℕ} 0 1 = cc t.look in absurd (omega arith)) looked
 
-    pub told_free : (i : ℕ) → look_up e l ≡ Free i → Missing l i
+    pub told_free : (i : ℕ) → look_up e l ≡ Err i → Missing l i
     told_free i q =
         ⊎_elim (λ t. let z : ◌≡◌ {A = ℕ} 0 1 = cc t.look in absurd (omega arith)) (λ t. let z : at ≡ i = cc t.look in rw z at t) looked
+
+    pub told_place : (n : ℕ) → n ≡ length l → result_unwrap_or (look_up e l) n ≡ lead (λ x. not (equal x)) l
+    told_place n q =
+        ⊎_elim (λ t. ap (λ r. result_unwrap_or r n) (sym t.look) ∙ t.first) (λ t. ap (λ r. result_unwrap_or r n) (sym t.look) ∙ (q ∙ t.first)) looked

@@ -16,8 +16,7 @@ use Rattle.lists.proofs.Chains.{chain-is, is-chain, place-chain, cut-chain}
 use Rattle.types.specs.declared.Envelope.{Envelope}
 use Rattle.types.specs.declared.Entry.{Entry}
 use Rattle.types.specs.declared.Kind.{Kind}
-use Rattle.types.specs.declared.LastMessage.{LastMessage}
-use Rattle.types.specs.declared.LastMessage.TheVariants.{Delivered}
+use Rattle.std.specs.Prelude.{Option, Some}
 use Rattle.types.specs.Capacities.{most_copies}
 use Rattle.rules.specs.Outcome.{done, guard}
 use Rattle.rules.specs.Network.{Net, put, sending, fits, send, lowered, fewer, remove, dropping, delivering, is_duplicating, on_deliver, on_drop}
@@ -63,11 +62,11 @@ module _ (m : Net) (o : Orderly m) (e : Envelope) where
   unfolding delivering choose
   delivers = go (is_duplicating m.kind)
     where
-      go : (b : Bool) → Orderly (choose b (record { kind = m.kind; entries = m.entries; last = Delivered e }) (dropping e m))
+      go : (b : Bool) → Orderly (choose b (record { kind = m.kind; entries = m.entries; last = Some e }) (dropping e m))
       go true = record { order = o.order; counts = o.counts }
       go false = drops
 
-module _ (k : Kind) (last : LastMessage) (cs : List (List ℕ)) (used n : ℕ) (ready : NetReady k cs used n) (r : Sent) (cs' : List (List ℕ)) where
+module _ (k : Kind) (last : Option Envelope) (cs : List (List ℕ)) (used n : ℕ) (ready : NetReady k cs used n) (r : Sent) (cs' : List (List ℕ)) where
   abbrev m : Net
   m = net_of k last cs used
 

@@ -1,15 +1,13 @@
 -- The rules' network that the first used cells of a slice are, and what a change in place leaves.
 -- Assumes nothing.
-use Rattle.std.specs.Prelude.{ℕ, ◌≤◌, ◌≡◌, true, List, map, length, take, get_or, set, leb}
+use Rattle.std.specs.Prelude.{ℕ, ◌≤◌, ◌≡◌, true, List, map, length, take, get_or, set, leb, Option, Some}
 use Rattle.lists.specs.Lists.{choose, all, chain, del}
 use Rattle.types.specs.declared.Entry.{Entry}
 use Rattle.types.specs.declared.Kind.{Kind}
 use Rattle.types.specs.declared.Kind.TheVariants.{Ordered, UnorderedDuplicating, UnorderedNonDuplicating}
 use Rattle.types.specs.declared.Envelope.{Envelope}
-use Rattle.types.specs.declared.LastMessage.{LastMessage}
-use Rattle.types.specs.declared.LastMessage.TheVariants.{Delivered}
 use Rattle.types.specs.Capacities.{most_copies}
-use Rattle.answers.specs.declared.Answer.TheVariants.{Done}
+use Rattle.answers.specs.Answers.{Done}
 use Rattle.answers.specs.Answers.{answer_of}
 use Rattle.rules.specs.Outcome.{Outcome, done, refused, Room}
 use Rattle.rules.specs.Network.{Net, lowered, len}
@@ -21,17 +19,17 @@ use Rattle.net_rows.specs.declared.Sent.{Sent}
 abbrev pub entry_list : List (List ℕ) → ℕ → List Entry
 entry_list cs used = map entry_of (take used cs)
 
-abbrev pub net_with : Kind → LastMessage → List Entry → Net
+abbrev pub net_with : Kind → Option Envelope → List Entry → Net
 net_with k last l = record { kind = k; entries = l; last = last }
 
 -- The last message stands apart: no change of the cells reads it.
-abbrev pub net_of : Kind → LastMessage → List (List ℕ) → ℕ → Net
+abbrev pub net_of : Kind → Option Envelope → List (List ℕ) → ℕ → Net
 net_of k last cs used = net_with k last (entry_list cs used)
 
 -- The last message after a Deliver.
-abbrev pub last_after : Kind → Envelope → LastMessage → LastMessage
+abbrev pub last_after : Kind → Envelope → Option Envelope → Option Envelope
 last_after Ordered e last = last
-last_after UnorderedDuplicating e last = Delivered e
+last_after UnorderedDuplicating e last = Some e
 last_after UnorderedNonDuplicating e last = last
 
 -- The room is the slice's.
@@ -73,11 +71,11 @@ pub record Changed (cs : List (List ℕ)) (used n : ℕ) (o : Outcome Net) (r : 
 
 -- A change in place, whatever the last message is: what f makes of the view.
 abbrev pub Makes : (Net → Outcome Net) → Kind → List (List ℕ) → ℕ → ℕ → Sent → List (List ℕ) → Type 0
-Makes f k cs used n r cs' = (last : LastMessage) → Changed cs used n (f (net_of k last cs used)) r cs'
+Makes f k cs used n r cs' = (last : Option Envelope) → Changed cs used n (f (net_of k last cs used)) r cs'
 
 -- One copy less at a place, and the same in place, whatever kind and last message are.
 unfoldable pub taken_at : ℕ → List Entry → List Entry
 taken_at at l = choose (leb (get_or l at zero_entry).count 1) (del at l) (set l at (lowered (get_or l at zero_entry)))
 
 abbrev pub TakesOut : ℕ → List (List ℕ) → ℕ → ℕ → Sent → List (List ℕ) → Type 0
-TakesOut at cs used n r cs' = (kind : Kind) (last : LastMessage) → Changed cs used n (done (net_with kind last (taken_at at (entry_list cs used)))) r cs'
+TakesOut at cs used n r cs' = (kind : Kind) (last : Option Envelope) → Changed cs used n (done (net_with kind last (taken_at at (entry_list cs used)))) r cs'

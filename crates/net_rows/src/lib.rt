@@ -1,5 +1,6 @@
 // The network in place: send, deliver and drop of the first used cells of a lent slice, for all three kinds. The used
 // count and the count of messages go in and come back in a small answer. On a refusal the cells are as they were.
+// The slice and its counts are parameters and no struct: a ghost field cannot stand beside a lent slice.
 #![tactic(auto)]
 
 ghost use Rattle.std.specs.Prelude.{◌≡◌, true, not, ◌≤◌, ◌<◌};
@@ -12,9 +13,9 @@ ghost use Rattle.net_rows.specs.Search.{stands, look_up};
 ghost use Rattle.net_rows.specs.Views.{entry_list, room_of, NetLaid, NetReady, Makes, TakesOut};
 ghost use Rattle.net_rows.specs.Parts.{envelope_in, Alone, counted_at, Enters, absent_of};
 
-use answers::Answer;
-use net_cells::cell_of;
-use net_slots::{Look, first_equal, halve};
+use answers::{Answer, Refusal};
+use net_cells::{cell_of, same};
+use net_slots::{cells_before, first_equal, flow_end};
 use rows::{insert_at, remove_at};
 use types::{Envelope, Kind, MOST_COPIES};
 
@@ -26,13 +27,6 @@ pub struct Sent {
     pub len: u64,
 }
 
-// Where an envelope is, or where it would stand.
-#[derive(Clone, Copy)]
-enum Found {
-    At(usize),
-    Free(usize),
-}
-
 // A new cell at a place, if there is room.
 fn insert_cell(c: &mut [[u64; 4]], used: usize, len: u64, at: usize, k: [u64; 4]) -> Sent
     requires { NetLaid c.old used len × (at ≤ used) × Alone k }
@@ -40,15 +34,15 @@ fn insert_cell(c: &mut [[u64; 4]], used: usize, len: u64, at: usize, k: [u64; 4]
 {
     if c.len() <= used {
         return Sent {
-            answer: Answer::NetworkFull,
-            used: used,
-            len: len,
+            answer: Err(Refusal::NetworkFull),
+            used,
+            len,
         };
     }
     insert_at(c, used, at, k);
-    let answer = Answer::Done;
+    let answer = Ok(());
     Sent {
-        answer: answer,
+        answer,
         used: used + 1,
         len: len + 1,
     }
@@ -63,15 +57,15 @@ fn count_up(c: &mut [[u64; 4]], used: usize, len: u64, at: usize) -> Sent
     let n = c[at][3];
     if most <= n {
         return Sent {
-            answer: Answer::NetworkFull,
-            used: used,
-            len: len,
+            answer: Err(Refusal::NetworkFull),
+            used,
+            len,
         };
     }
     c[at][3] = n + 1;
     Sent {
-        answer: Answer::Done,
-        used: used,
+        answer: Ok(()),
+        used,
         len: len + 1,
     }
 }
@@ -85,32 +79,29 @@ fn take_out(c: &mut [[u64; 4]], used: usize, len: u64, at: usize) -> Sent
     if n <= 1 {
         remove_at(c, used, at);
         return Sent {
-            answer: Answer::Done,
+            answer: Ok(()),
             used: used - 1,
             len: len - n,
         };
     }
     c[at][3] = n - 1;
     Sent {
-        answer: Answer::Done,
-        used: used,
+        answer: Ok(()),
+        used,
         len: len - 1,
     }
 }
 
-// The look-up where the cells ascend.
-fn look_up(c: &[[u64; 4]], used: usize, len: u64, k: [u64; 4]) -> Found
+// The look-up where the cells ascend: the place of the envelope, or else where it would stand.
+fn look_up(c: &[[u64; 4]], used: usize, len: u64, k: [u64; 4]) -> Result<usize, usize>
     requires { NetLaid c.now used len × Alone k × (chain stands (entry_list c.now used) ≡ true) }
     ensures { result ≡ look_up (envelope_in k) (entry_list c.now used) }
 {
-    let at = halve(Look::Before, c, used, k);
-    if at < used {
-        let x = c[at];
-        if net_cells::same(x, k) {
-            return Found::At(at);
-        }
+    let at = cells_before(&c[..used], k);
+    if at < used && same(c[at], k) {
+        return Ok(at);
     }
-    Found::Free(at)
+    Err(at)
 }
 
 // After its flow.
@@ -118,7 +109,7 @@ fn send_ordered(c: &mut [[u64; 4]], used: usize, len: u64, k: [u64; 4]) -> Sent
     requires { NetReady Ordered c.old used len × Alone k }
     ensures { Makes (send (room_of c.old) (envelope_in k)) Ordered c.old used len result c.new }
 {
-    let at = halve(Look::UpToFlow, c, used, k);
+    let at = flow_end(&c[..used], k);
     insert_cell(c, used, len, at, k)
 }
 
@@ -127,14 +118,13 @@ fn send_once(c: &mut [[u64; 4]], used: usize, len: u64, k: [u64; 4]) -> Sent
     requires { NetReady UnorderedDuplicating c.old used len × Alone k }
     ensures { Makes (send (room_of c.old) (envelope_in k)) UnorderedDuplicating c.old used len result c.new }
 {
-    let f = look_up(c, used, len, k);
-    match f {
-        Found::At(_) => Sent {
-            answer: Answer::Done,
-            used: used,
-            len: len,
+    match look_up(c, used, len, k) {
+        Ok(_) => Sent {
+            answer: Ok(()),
+            used,
+            len,
         },
-        Found::Free(at) => insert_cell(c, used, len, at, k),
+        Err(at) => insert_cell(c, used, len, at, k),
     }
 }
 
@@ -143,10 +133,9 @@ fn send_counted(c: &mut [[u64; 4]], used: usize, len: u64, k: [u64; 4]) -> Sent
     requires { NetReady UnorderedNonDuplicating c.old used len × Alone k }
     ensures { Makes (send (room_of c.old) (envelope_in k)) UnorderedNonDuplicating c.old used len result c.new }
 {
-    let f = look_up(c, used, len, k);
-    match f {
-        Found::At(at) => count_up(c, used, len, at),
-        Found::Free(at) => insert_cell(c, used, len, at, k),
+    match look_up(c, used, len, k) {
+        Ok(at) => count_up(c, used, len, at),
+        Err(at) => insert_cell(c, used, len, at, k),
     }
 }
 
@@ -166,30 +155,18 @@ fn sorted_place(c: &[[u64; 4]], used: usize, len: u64, k: [u64; 4]) -> usize
     requires { NetLaid c.now used len × Alone k × (chain stands (entry_list c.now used) ≡ true) }
     ensures { result ≡ lead (λ x. not (same (envelope_in k) x.envelope)) (entry_list c.now used) }
 {
-    let f = look_up(c, used, len, k);
-    match f {
-        Found::At(at) => at,
-        Found::Free(_) => used,
-    }
+    look_up(c, used, len, k).unwrap_or(used)
 }
 
-fn ordered_place(c: &[[u64; 4]], used: usize, len: u64, k: [u64; 4]) -> usize
-    requires { NetReady Ordered c.now used len × Alone k }
-    ensures { result ≡ lead (λ x. not (same (envelope_in k) x.envelope)) (entry_list c.now used) }
-{
-    first_equal(c, used, k)
-}
-
-// The place of the first equal message, or the count.
+// The place of the first equal message, or the count, and no Option: the page of contracts promises it so.
 pub fn equal_place(c: &[[u64; 4]], kind: Kind, used: usize, len: u64, e: Envelope) -> usize
     requires { NetReady kind c.now used len }
     ensures { result ≡ lead (λ x. not (same e x.envelope)) (entry_list c.now used) }
 {
     let k = cell_of(e);
     match kind {
-        Kind::Ordered => ordered_place(c, used, len, k),
-        Kind::UnorderedDuplicating => sorted_place(c, used, len, k),
-        Kind::UnorderedNonDuplicating => sorted_place(c, used, len, k),
+        Kind::Ordered => first_equal(&c[..used], k),
+        _ => sorted_place(c, used, len, k),
     }
 }
 
@@ -198,9 +175,9 @@ fn when_absent(kind: Kind) -> Answer
     ensures { result ≡ absent_of kind }
 {
     match kind {
-        Kind::Ordered => Answer::Absent,
-        Kind::UnorderedDuplicating => Answer::Done,
-        Kind::UnorderedNonDuplicating => Answer::Absent,
+        Kind::Ordered => Err(Refusal::Absent),
+        Kind::UnorderedDuplicating => Ok(()),
+        Kind::UnorderedNonDuplicating => Err(Refusal::Absent),
     }
 }
 
@@ -214,8 +191,8 @@ pub fn on_drop(c: &mut [[u64; 4]], kind: Kind, used: usize, len: u64, e: Envelop
     }
     Sent {
         answer: when_absent(kind),
-        used: used,
-        len: len,
+        used,
+        len,
     }
 }
 
@@ -225,12 +202,11 @@ pub fn on_deliver(c: &mut [[u64; 4]], kind: Kind, used: usize, len: u64, e: Enve
     ensures { Makes (on_deliver e) kind c.old used len result c.new }
 {
     match kind {
-        Kind::Ordered => on_drop(c, kind, used, len, e),
         Kind::UnorderedDuplicating => Sent {
-            answer: Answer::Done,
-            used: used,
-            len: len,
+            answer: Ok(()),
+            used,
+            len,
         },
-        Kind::UnorderedNonDuplicating => on_drop(c, kind, used, len, e),
+        _ => on_drop(c, kind, used, len, e),
     }
 }

@@ -1,44 +1,28 @@
-// Places among the first used cells of a lent slice, found by halves. What stands after the used count is not looked at, so
-// that nothing grows with the room.
+// Places among cells that stand in order, found by halves.
 #![tactic(auto)]
 
-ghost use Rattle.std.specs.Prelude.{◌≡◌, true, not, ◌≤◌, length, take, leb};
+ghost use Rattle.std.specs.Prelude.{◌≡◌, ℕ, Bool, List, true, not, ◌≤◌, length, leb, position, take_while};
+ghost use Rattle.std.specs.Fn.{FnReturnsAt};
 ghost use Rattle.lists.specs.Lists.{chain, lead};
 ghost use Rattle.types.specs.Order.{is_equal};
 ghost use Rattle.net_cells.specs.Cells.{cmp_cell, flow_of};
-ghost use Rattle.net_slots.specs.Search.{passes_of, Once};
+ghost use Rattle.net_slots.specs.Search.{Once, stands_before, up_to_flow};
 
 use net_cells::{TAGS, before, same};
 
-// What a search passes over: cells that stand before k, of a flow up to that of k, or of a flow before it.
-#[derive(Clone, Copy)]
-pub enum Look {
-    Before,
-    UpToFlow,
-    BeforeFlow,
-}
-
-fn passes(l: Look, x: [u64; 4], k: [u64; 4]) -> bool
-    ensures { result ≡ passes_of l k x }
-{
-    match l {
-        Look::Before => before(x, k),
-        Look::UpToFlow => x[0] / TAGS <= k[0] / TAGS,
-        Look::BeforeFlow => x[0] / TAGS < k[0] / TAGS,
-    }
-}
-
-// How many leading cells pass, where none passes after one that fails: each turn halves the range.
-pub fn halve(l: Look, c: &[[u64; 4]], used: usize, k: [u64; 4]) -> usize
-    requires { (used ≤ length c.now) × Once (passes_of l k) used c.now }
-    ensures { result ≡ lead (passes_of l k) (take used c.now) }
+// How many cells pass, where none passes after one that fails. By hand: the slice's partition_point asks at one or two cells more,
+// and on a hundred cells takes a quarter longer.
+pub fn halve<F: Fn(&[u64; 4]) -> bool>(cells: &[[u64; 4]], passes: F) -> usize
+    requires { F.IsAlwaysCallable passes }
+    ensures within { result ≤ length cells.now }
+    ensures first { (p : List ℕ → Bool) → ((x : List ℕ) (r : Bool) → FnReturnsAt F.Fn passes x r → r ≡ p x)
+        → Once p (length cells.now) cells.now → result ≡ lead p cells.now }
 {
     let mut low = 0;
-    let mut high = used;
+    let mut high = cells.len();
     while low < high {
         let mid = low + (high - low) / 2;
-        let x = c[mid];
-        if passes(l, x, k) {
+        if passes(&cells[mid]) {
             low = mid + 1;
         } else {
             high = mid;
@@ -47,21 +31,37 @@ pub fn halve(l: Look, c: &[[u64; 4]], used: usize, k: [u64; 4]) -> usize
     low
 }
 
-// The place of the first equal cell, or the count, where the flows ascend: from the start of its flow to the end of it.
-pub fn first_equal(c: &[[u64; 4]], used: usize, k: [u64; 4]) -> usize
-    requires { (used ≤ length c.now) × (chain (λ x y. leb (flow_of x) (flow_of y)) (take used c.now) ≡ true) }
-    ensures { result ≡ lead (λ x. not (is_equal (cmp_cell x k))) (take used c.now) }
+// How many cells stand before k.
+pub fn cells_before(cells: &[[u64; 4]], k: [u64; 4]) -> usize
+    requires { Once (stands_before k) (length cells.now) cells.now }
+    ensures { result ≡ lead (stands_before k) cells.now }
 {
-    let mut i = halve(Look::BeforeFlow, c, used, k);
-    while i < used {
-        let x = c[i];
-        if same(x, k) {
-            return i;
-        }
-        if k[0] / TAGS < x[0] / TAGS {
-            return used;
-        }
-        i += 1;
-    }
-    i
+    halve(cells, |x| before(*x, k))
+}
+
+// How many cells stand up to the end of the flow of k.
+pub fn flow_end(cells: &[[u64; 4]], k: [u64; 4]) -> usize
+    requires { Once (up_to_flow k) (length cells.now) cells.now }
+    ensures { result ≡ lead (up_to_flow k) cells.now }
+{
+    halve(cells, |x| x[0] / TAGS <= k[0] / TAGS)
+}
+
+// The place of the first equal cell in cells that begin with the flow of k.
+fn first_in(flow: &[[u64; 4]], k: [u64; 4]) -> Option<usize>
+    ensures { result ≡ position (λ x. is_equal (cmp_cell x k)) (take_while (up_to_flow k) flow.now) }
+{
+    flow.iter()
+        .take_while(|x| x[0] / TAGS <= k[0] / TAGS)
+        .position(|x| same(*x, k))
+}
+
+// The place of the first equal cell where the flows ascend, or the count: a walk from the start of its flow to the end.
+// The count and no Option: the page of contracts promises it so.
+pub fn first_equal(cells: &[[u64; 4]], k: [u64; 4]) -> usize
+    requires { chain (λ x y. leb (flow_of x) (flow_of y)) cells.now ≡ true }
+    ensures { result ≡ lead (λ x. not (is_equal (cmp_cell x k))) cells.now }
+{
+    let start = halve(cells, |x| x[0] / TAGS < k[0] / TAGS);
+    first_in(&cells[start..], k).map_or(cells.len(), |i| start + i)
 }

@@ -23,9 +23,10 @@ use Rattle.rules.specs.Script.{versions, format_of, Item, end, item, Script, hea
 use Rattle.rules.specs.Script.{opening_from}
 use Rattle.rules.specs.Script.{action_form, table_from, envelopes_from, closed, after_item, actions_within, actions_from, script_from, read_script}
 use Rattle.rules.specs.Program.{bad_word, line, replay}
-use Rattle.script_check.specs.declared.Layout.{Layout}
-use Rattle.script_check.specs.declared.Layout.TheVariants as layout
+use Rattle.script_places.specs.declared.BadAt.{BadAt}
+use Rattle.std.specs.Prelude.{Result, Ok, Err}
 use Rattle.script_check.specs.Views.{layout_of}
+use Rattle.script_check.proofs.Says.{same_place}
 use Rattle.script_check.proofs.Whole.{parts-of}
 use Rattle.replay_lines.proofs.Laws.{length-line}
 use Rattle.replay_script.proofs.Laws.{good-longest, told-bad}
@@ -127,14 +128,14 @@ module _ (known : List Format) where
       go false = omega arith
 
 -- ---- the output
-place_in : (s : List ℕ) (p : ℕ) → layout_of (read_script versions s) ≡ layout.Bad p → p ≤ length s
+place_in : (s : List ℕ) (p : ℕ) → layout_of (read_script versions s) ≡ Err (record { 0 = p }) → p ≤ length s
 place_in s p h = go (read_script versions s) (inside versions s) h
   where
-    go : (m : Reading Script) → Inside (length s) m → layout_of m ≡ layout.Bad p → p ≤ length s
+    go : (m : Reading Script) → Inside (length s) m → layout_of m ≡ Err (record { 0 = p }) → p ≤ length s
     go (read a ys q) i e = let z : ◌≡◌ {A = ℕ} 0 1 = cc in absurd (omega arith)
-    go (bad_at q) i e = let z : q ≡ p = cc in omega arith
+    go (bad_at q) i e = let z : q ≡ p = same_place e in omega arith
 
-bad-size : (s : List ℕ) (p : ℕ) → layout_of (read_script versions s) ≡ layout.Bad p → length (line bad_word (p ∷ []))
+bad-size : (s : List ℕ) (p : ℕ) → layout_of (read_script versions s) ≡ Err (record { 0 = p }) → length (line bad_word (p ∷ []))
     ≡ length (replay base versions s)
 bad-size s p h =
     (told-bad s p {out = []} {left = choose (leb n 0) (line bad_word (p ∷ []) ++ drop n []) []} {r = n} h (record { size = refl; bytes = refl })).size
@@ -143,7 +144,7 @@ bad-size s p h =
     n = length (line bad_word (p ∷ []))
 
 bad-fits
-    : (s : List ℕ) (p : ℕ) → length s < 18446744073709551616 → layout_of (read_script versions s) ≡ layout.Bad p
+    : (s : List ℕ) (p : ℕ) → length s < 18446744073709551616 → layout_of (read_script versions s) ≡ Err (record { 0 = p })
     → length (replay base versions s) ≤ 1507488
 bad-fits s p k h =
     let l = length-line bad_word (p ∷ []) (omega (arith, place_in s p h), tt) (omega arith) in
@@ -152,9 +153,9 @@ bad-fits s p k h =
 pub output-fits : (s : List ℕ) → length s < 18446744073709551616 → length (replay base versions s) ≤ 1507488
 output-fits s k = go (layout_of (read_script versions s)) refl
   where
-    go : (l : Layout) → layout_of (read_script versions s) ≡ l → length (replay base versions s) ≤ 1507488
-    go layout.Good h = let p = parts-of versions s h in omega (arith, p.short, good-longest s p)
-    go (layout.Bad p) h = bad-fits s p k h
+    go : (l : Result Unit BadAt) → layout_of (read_script versions s) ≡ l → length (replay base versions s) ≤ 1507488
+    go (Ok u) h = let p = parts-of versions s h in omega (arith, p.short, good-longest s p)
+    go (Err e) h = bad-fits s e.0 k h
 
 -- ---- the output, at the start of a buffer in which it fits
 pub put_all

@@ -8,7 +8,7 @@ ghost use Rattle.rules.specs.Script.{versions};
 ghost use Rattle.rules.specs.Program.{replay};
 ghost use Rattle.replay_io.specs.Views.{Sized};
 
-use replay_input::{Input, Source, read_all, source_of};
+use replay_input::{Source, read_all, source_of};
 use replay_script::{MOST_FRAME, MOST_LINE, replay};
 use std::env::{Env, FillError};
 use std::fs::OpenOptions;
@@ -52,10 +52,8 @@ fn put_output(script: &[u8], room: &mut [u8]) -> usize
 
 // The system's words for an error, in what std writes for it: they stand before its number, and else before the first 0.
 fn words_of(text: &str) -> &str {
-    match text.split_once(" (os error ").or(text.split_once('\0')) {
-        Some((words, _)) => words,
-        None => text,
-    }
+    let cut = text.split_once(" (os error ").or(text.split_once('\0'));
+    cut.map_or(text, |(words, _)| words)
 }
 
 // Says on standard error what failed, as the caller names it, and why.
@@ -84,27 +82,22 @@ fn write_replay(rt: &HostRuntime, script: &[u8]) {
 // What cannot be read is said on standard error under its name, and nothing is written to standard output.
 fn replay_from<F: Read>(rt: &HostRuntime, reader: &mut F, name: &str) {
     let mut room = script_room();
-    let input = read_all(reader, &mut room);
-    match input {
-        Input::Broken(e) => fail(rt, name, e),
-        Input::Whole(size) => write_replay(rt, &room[..size]),
+    match read_all(reader, &mut room) {
+        Ok(size) => write_replay(rt, &room[..size]),
+        Err(e) => fail(rt, name, e),
     }
 }
 
 // How many arguments there are. That there is one is seen without room for it.
 fn arg_count(rt: &HostRuntime) -> usize {
-    for i in 0..usize::MAX {
-        if let Err(FillError::NotPresent) = rt.arg(i, &mut []) {
-            return i;
-        }
-    }
-    usize::MAX
+    (0..usize::MAX)
+        .find(|&i| matches!(rt.arg(i, &mut []), Err(FillError::NotPresent)))
+        .unwrap_or(usize::MAX)
 }
 
 // Replays the script that the program's arguments ask for.
 pub fn replay_asked(rt: &HostRuntime) {
-    let from = source_of(arg_count(rt));
-    match from {
+    match source_of(arg_count(rt)) {
         Source::Input => replay_from(rt, &mut rt.stdin(), "standard input"),
         Source::Argument => replay_argument(rt),
         Source::Wrong => {
@@ -113,28 +106,23 @@ pub fn replay_asked(rt: &HostRuntime) {
     }
 }
 
+// The name that the first argument is, in the buffer that is lent for it.
+fn script_name<'a>(rt: &HostRuntime, path: &'a mut [u8]) -> io::Result<&'a str> {
+    let size = rt
+        .arg(1, path)
+        .map_err(|_| io::Error::from_raw_os_error(NAME_TOO_LONG))?;
+    str::from_utf8(&path[..size]).map_err(|_| io::Error::new(ErrorKind::InvalidData, "not UTF-8"))
+}
+
 // Replays the script in the file that the first argument names. The file is opened by the handle's own method, and not by
 // std's `File::open`, since that stands on the C functions under all that can be done with files.
 fn replay_argument(rt: &HostRuntime) {
     let mut path = [0; PATH];
-    let Ok(size) = rt.arg(1, &mut path) else {
-        fail(
-            rt,
-            "the script's name",
-            io::Error::from_raw_os_error(NAME_TOO_LONG),
-        );
-        return;
-    };
-    let Ok(name) = str::from_utf8(&path[..size]) else {
-        fail(
-            rt,
-            "the script's name",
-            io::Error::new(ErrorKind::InvalidData, "not UTF-8"),
-        );
-        return;
-    };
-    match rt.open_file(OpenOptions::new().read(true), name) {
-        Ok(mut file) => replay_from(rt, &mut file, name),
-        Err(e) => fail(rt, name, e),
+    match script_name(rt, &mut path) {
+        Ok(name) => match rt.open_file(OpenOptions::new().read(true), name) {
+            Ok(mut file) => replay_from(rt, &mut file, name),
+            Err(e) => fail(rt, name, e),
+        },
+        Err(e) => fail(rt, "the script's name", e),
     }
 }

@@ -1,13 +1,14 @@
 -- Pieces of text one after another, and how long a line may be.
 -- Assumes nothing.
-use Prim.Native.Nat.{ℕ, suc, ◌+◌, ◌*◌, ◌≤◌, ◌<◌}
+use Prim.Native.Nat.{ℕ, zero, suc, ◌+◌, ◌-◌, ◌*◌, ◌≤◌, ◌<◌}
 use native.Mathlib.Numerals.{add-one}
 use native.Mathlib.Omega.{arith}
 use mathlib.Core.Bool.{Bool, true, false}
 use mathlib.Core.Path.{◌≡◌, refl, sym, ap, ◌∙◌, subst}
 use mathlib.Core.List.{List, [], ◌∷◌, ◌++◌, append_assoc}
-use lib.ListN.{length, take, drop, set, get_or, take-append-drop, length-append, length-drop}
-use lib.Seq.{set_split, length-take-le, take-suc, take_at, drop-append-add, drop-drop}
+use lib.ListN.{length, take, drop, get_or, take-append-drop, length-append, length-drop}
+use lib.Seq.{length-take-le, take_at, drop-append-add, drop-drop, drop-cons}
+use borrow.Rule.Slice.PartMut.{put_mid, Post-is}
 use mir.Syntax.{w64}
 use mir.Val as val
 use Rattle.lists.specs.Lists.{choose}
@@ -26,9 +27,12 @@ pub measured : {w : Bool} {at end : ℕ} {l out left : List ℕ} → w ≡ false
 unfolding put choose
 measured e n b = record { next = n; bytes = rw e b }
 
-pub stored
-    : {w : Bool} {at x : ℕ} {out left : List ℕ} → w ≡ true → at < length out → left ≡ set out at x → Piece w at (x ∷ []) out (at + 1) left
-stored {at = at} {x} {out} e h b = written e refl (b ∙ set_split out at x h ∙ rw (sym (add-one at)))
+pub copied
+    : {w : Bool} (at : ℕ) (word out part : List ℕ) → w ≡ true → part ≡ word
+    → Piece w at word out (at + length word) (put_mid at (at + length word - at) out part)
+copied at word out part e h =
+    let past = Post-is at (at + length word) out (omega arith) in
+    written e refl (ap (λ (l : List ℕ). put_mid at (at + length word - at) out l) h ∙ ap (λ (l : List ℕ). take at out ++ (word ++ l)) past)
 
 pub none : {w : Bool} {at : ℕ} {out : List ℕ} → Piece w at [] out at out
 unfolding put choose
@@ -98,21 +102,65 @@ pub room-then
 room-then a b r p =
     record { fits = fits-then a b r.fits p; small = omega (arith, r.small, p.next, length-append a b) }
 
--- ---- a piece byte by byte
-module _ {w : Bool} {at : ℕ} {out : List ℕ} (word : List ℕ) (i : ℕ) (h : i < length word) (r : Room w at word out) where
-  room-taken : Room w at (take i word ++ (get_or word i 0 ∷ [])) out
-  room-taken =
-      let e = sym (take-append-drop (suc i) word) ∙ ap (λ (l : List ℕ). l ++ drop (suc i) word) (take-suc word i 0 h) in
-      room-first (take i word ++ (get_or word i 0 ∷ [])) (drop (suc i) word) (subst (λ (l : List ℕ). Room w at l out) e r)
+-- ---- a piece, part by part
+-- What is left to put has room, and completes the whole.
+pub record Left (w : Bool) (at : ℕ) (whole before : List ℕ) (end : ℕ) (rest now : List ℕ) : Type 0 where
+  pub room : Room w end rest now
+  pub completes : (last : ℕ) (left : List ℕ) → Piece w end rest now last left → Piece w at whole before last left
 
-  pub room-turn : {m : ℕ} {mid : List ℕ} → Piece w at (take i word) out m mid → Room w m (get_or word i 0 ∷ []) mid
-  room-turn p = room-then (take i word) (get_or word i 0 ∷ []) room-taken p
+pub left_all : {w : Bool} {at : ℕ} {whole before : List ℕ} → Room w at whole before → Left w at whole before at whole before
+left_all r = record { room = r; completes = λ last left p. p }
 
-  pub piece-turn
-      : {m end : ℕ} {mid left : List ℕ} → Piece w at (take i word) out m mid → Piece w m (get_or word i 0 ∷ []) mid end left
-      → Piece w at (take (i + 1) word) out end left
-  piece-turn p q =
-      rw (add-one, take-suc word i 0) (piece_then (take i word) (get_or word i 0 ∷ []) room-taken.fits p q)
+-- one part less is left
+pub left_more
+    : {w : Bool} {at end m : ℕ} {whole before now mid : List ℕ} (a b : List ℕ) → Left w at whole before end (a ++ b) now → Piece w end a now m mid
+    → Left w at whole before m b mid
+left_more a b l p = record {
+  room = room-then a b l.room p;
+  completes = λ last left q. l.completes last left (piece_then a b l.room.fits p q);
+}
+
+-- ---- the numbers of a line
+module _ {w : Bool} {at end : ℕ} {whole before now : List ℕ} (numbers : List ℕ) (i : ℕ) (h : i < length numbers)
+    (l : Left w at whole before end (spaced (drop i numbers)) now) where
+  abbrev number : ℕ
+  number = get_or numbers i 0
+
+  abbrev others : List ℕ
+  others = spaced (drop (i + 1) numbers)
+
+  next-is : spaced (drop i numbers) ≡ (32 ∷ []) ++ (decimal number ++ others)
+  unfolding spaced
+  next-is = rw (add-one, drop-cons numbers i 0)
+
+  at-space : Left w at whole before end ((32 ∷ []) ++ (decimal number ++ others)) now
+  at-space = subst (λ (r : List ℕ). Left w at whole before end r now) next-is l
+
+  pub space-room : Room w end (32 ∷ []) now
+  space-room = room-first (32 ∷ []) (decimal number ++ others) at-space.room
+
+  module _ {m : ℕ} {mid : List ℕ} (p : Piece w end (32 ∷ []) now m mid) where
+    at-number : Left w at whole before m (decimal number ++ others) mid
+    at-number = left_more (32 ∷ []) (decimal number ++ others) at-space p
+
+    pub number-room : Room w m (decimal number) mid
+    number-room = room-first (decimal number) others at-number.room
+
+    pub past-number : {k : ℕ} {after : List ℕ} → Piece w m (decimal number) mid k after → Left w at whole before k others after
+    past-number q = left_more (decimal number) others at-number q
+
+-- past the last one the line feed is left
+spaced_past : (i : ℕ) (numbers : List ℕ) → length numbers ≤ i → spaced (drop i numbers) ≡ 10 ∷ []
+unfolding spaced
+spaced_past zero [] h = refl
+spaced_past (suc i) [] h = refl
+spaced_past zero (n ∷ l) h = absurd (omega arith)
+spaced_past (suc i) (n ∷ l) h = spaced_past i l (omega arith)
+
+pub past-all : {w : Bool} {at end : ℕ} {whole before now : List ℕ} (numbers : List ℕ) (i : ℕ) → length numbers ≤ i
+    → Left w at whole before end (spaced (drop i numbers)) now → Left w at whole before end (10 ∷ []) now
+past-all {w} {at} {end} {whole} {before} {now} numbers i h l =
+    subst (λ (r : List ℕ). Left w at whole before end r now) (spaced_past i numbers h) l
 
 -- ---- how long a line may be
 abbrev Wide : List ℕ → Type 0

@@ -1,39 +1,25 @@
 // The lines of the program, each put into a lent buffer from a place on, or with `write` false only measured: a buffer
 // that is too small is left untouched, so the whole output is measured first, by the code that then writes it.
 // Each answers the place after what it put. A line starts at a place of up to 32 bits, so that no sum overflows.
+// A flag, since every line takes it from its caller: two sinks under a trait would be chosen by the same flag in each line.
 #![tactic(auto)]
 
 ghost use Rattle.std.specs.Prelude.{◌≡◌, [], ◌∷◌, ◌+◌, ◌≤◌, length};
 ghost use Rattle.rules.specs.Program.{decimal, spaced, line, answer_line, bad_word, start_word, done_word};
 ghost use Rattle.replay_lines.specs.Pieces.{put, Fits, Room, Piece};
 
-const BAD: [u8; 3] = *b"bad";
+use replay_decimals::{width, write_decimal};
 
-const START: [u8; 5] = *b"start";
-
-const DONE: [u8; 4] = *b"done";
-
-fn put_byte(out: &mut [u8], at: usize, write: bool, b: u8) -> usize
-    requires { Room write at (b ∷ []) out.old }
-    ensures { Piece write at (b ∷ []) out.old result out.new }
-{
-    if write {
-        out[at] = b;
-    }
-    at + 1
-}
-
+// Three parameters travel together, and no struct holds them: each clause would have to name the loan in its field.
 fn put_word(out: &mut [u8], at: usize, write: bool, word: &[u8]) -> usize
     requires { Room write at word.now out.old }
     ensures { Piece write at word.now out.old result out.new }
 {
-    let mut next = at;
-    let mut i = 0;
-    while i < word.len() {
-        next = put_byte(out, next, write, word[i]);
-        i += 1;
+    let end = at + word.len();
+    if write {
+        out[at..end].copy_from_slice(word);
     }
-    next
+    end
 }
 
 fn put_decimal(out: &mut [u8], at: usize, write: bool, n: u64) -> usize
@@ -41,35 +27,34 @@ fn put_decimal(out: &mut [u8], at: usize, write: bool, n: u64) -> usize
     ensures { Piece write at (decimal n) out.old result out.new }
 {
     if write {
-        return replay_decimals::write_decimal(out, at, n);
+        return write_decimal(out, at, n);
     }
-    at + replay_decimals::width(n)
+    at + width(n)
 }
 
-// A number after a space.
-fn put_number(out: &mut [u8], at: usize, write: bool, n: u64) -> usize
-    requires { Room write at (32 ∷ decimal n) out.old }
-    ensures { Piece write at (32 ∷ decimal n) out.old result out.new }
+// A line's numbers, each after a space, and the line feed.
+fn put_numbers(out: &mut [u8], at: usize, write: bool, numbers: &[u64]) -> usize
+    requires { Room write at (spaced numbers.now) out.old }
+    ensures { Piece write at (spaced numbers.now) out.old result out.new }
 {
-    let next = put_byte(out, at, write, 32);
-    put_decimal(out, next, write, n)
+    let mut end = at;
+    for &n in numbers {
+        end = put_word(out, end, write, b" ");
+        end = put_decimal(out, end, write, n);
+    }
+    put_word(out, end, write, b"\n")
 }
 
-// A line's last number, and the line feed.
-fn put_last(out: &mut [u8], at: usize, write: bool, n: u64) -> usize
-    requires { Room write at (spaced (n ∷ [])) out.old }
-    ensures { Piece write at (spaced (n ∷ [])) out.old result out.new }
+// A word, and a line's numbers behind it.
+fn put_line(out: &mut [u8], at: usize, write: bool, word: &[u8], numbers: &[u64]) -> usize
+    requires room { Fits write at (line word.now numbers.now) out.old × (at ≤ 4294967296) }
+    requires short { length (line word.now numbers.now) ≤ 80 }
+    ensures next { result ≡ at + length (line word.now numbers.now) }
+    ensures bytes { out.new ≡ put write at (line word.now numbers.now) out.old }
+    ensures short { result ≤ at + 80 }
 {
-    let next = put_number(out, at, write, n);
-    put_byte(out, next, write, 10)
-}
-
-fn put_last_two(out: &mut [u8], at: usize, write: bool, m: u64, n: u64) -> usize
-    requires { Room write at (spaced (m ∷ n ∷ [])) out.old }
-    ensures { Piece write at (spaced (m ∷ n ∷ [])) out.old result out.new }
-{
-    let next = put_number(out, at, write, m);
-    put_last(out, next, write, n)
+    let end = put_word(out, at, write, word);
+    put_numbers(out, end, write, numbers)
 }
 
 // `bad PLACE`
@@ -79,8 +64,7 @@ pub fn bad_line(out: &mut [u8], at: usize, write: bool, place: u64) -> usize
     ensures bytes { out.new ≡ put write at (line bad_word (place ∷ [])) out.old }
     ensures short { result ≤ at + 80 }
 {
-    let word = put_word(out, at, write, &BAD);
-    put_last(out, word, write, place)
+    put_line(out, at, write, b"bad", &[place])
 }
 
 // `start ANSWER LEN`
@@ -90,8 +74,7 @@ pub fn start_line(out: &mut [u8], at: usize, write: bool, answer: u64, len: u64)
     ensures bytes { out.new ≡ put write at (line start_word (answer ∷ len ∷ [])) out.old }
     ensures short { result ≤ at + 80 }
 {
-    let word = put_word(out, at, write, &START);
-    put_last_two(out, word, write, answer, len)
+    put_line(out, at, write, b"start", &[answer, len])
 }
 
 // `ANSWER LEN`
@@ -101,8 +84,8 @@ pub fn answer_line(out: &mut [u8], at: usize, write: bool, answer: u64, len: u64
     ensures bytes { out.new ≡ put write at (answer_line answer len) out.old }
     ensures short { result ≤ at + 80 }
 {
-    let next = put_decimal(out, at, write, answer);
-    put_last(out, next, write, len)
+    let end = put_decimal(out, at, write, answer);
+    put_numbers(out, end, write, &[len])
 }
 
 // `done NEXT IGNORED REFUSED`
@@ -119,7 +102,5 @@ pub fn done_line(
     ensures bytes { out.new ≡ put write at (line done_word (next ∷ ignored ∷ refused ∷ [])) out.old }
     ensures short { result ≤ at + 80 }
 {
-    let word = put_word(out, at, write, &DONE);
-    let number = put_number(out, word, write, next);
-    put_last_two(out, number, write, ignored, refused)
+    put_line(out, at, write, b"done", &[next, ignored, refused])
 }

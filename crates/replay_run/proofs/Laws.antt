@@ -11,8 +11,8 @@ use Rattle.types.specs.Capacities.{most_entries}
 use Rattle.types.specs.declared.Action.{Action}
 use Rattle.types.specs.declared.Format.{Format}
 use Rattle.types.specs.declared.Kind.{Kind}
-use Rattle.types.specs.declared.LastMessage.{LastMessage}
-use Rattle.answers.specs.declared.Answer.{Answer}
+use Rattle.std.specs.Prelude.{Option}
+use Rattle.answers.specs.Answers.{Answer}
 use Rattle.answers.specs.Answers.{answer_number}
 use Rattle.layout.specs.Read.{read, one}
 use Rattle.rules.specs.Outcome.{base}
@@ -22,7 +22,8 @@ use Rattle.rules.specs.WellFormed.{well_formed}
 use Rattle.rules.specs.Script.{action_form, actions_from}
 use Rattle.rules.specs.Program.{answer_line, size, line, done_word}
 use Rattle.net_rows.specs.declared.Sent.{Sent}
-use Rattle.script_records.specs.declared.ActionRead.TheVariants.{Act, End, Bad}
+use Rattle.std.specs.Prelude.{Some, None, Ok, Err}
+use Rattle.script_places.specs.declared.BadAt.{BadAt}
 use Rattle.script_records.specs.Views.{action_read}
 use Rattle.replay_lines.specs.Pieces.{Fits, Piece}
 use Rattle.replay_lines.proofs.Laws.{none, length-left, fits-first, fits-then, piece_then}
@@ -36,6 +37,7 @@ use Rattle.replay_run.specs.Plays.{Plays}
 use Rattle.replay_run.proofs.Totals.{rest_text, rest-start, rest-next, rest_end, sum-counted}
 use Rattle.replay_run.proofs.Actions.{Acts, acts, ends, never}
 use Rattle.replay_run.proofs.Steps.{Took, took-formed, took, last_now}
+use Rattle.types.specs.declared.Envelope.{Envelope}
 
 -- The network of a system that is ready fits its array.
 pub net-fits : (s : System) → Ready s → s.network.used ≤ most_entries
@@ -73,7 +75,7 @@ module _ {script : List ℕ} {f : Format} {whole out₀ : List ℕ} {place : ℕ
   kept-length = length-left (fits-first write place g.told rest out₀ room) g.piece
 
   -- ---- one action more
-  module _ (a : Action) (r : ℕ) (seen : action_read (one (action_form f) (drop at script) at) ≡ Act a r) where
+  module _ (a : Action) (r : ℕ) (seen : action_read (one (action_form f) (drop at script) at) ≡ Ok (Some a, r)) where
     abbrev pub going : Acts f script at g.left g.stop g.actions a r
     going = acts f script at a r g.reads seen
 
@@ -116,7 +118,7 @@ module _ {script : List ℕ} {f : Format} {whole out₀ : List ℕ} {place : ℕ
       }
 
   -- ---- the end
-  module _ (r : ℕ) (seen : action_read (one (action_form f) (drop at script) at) ≡ End r) where
+  module _ (r : ℕ) (seen : action_read (one (action_form f) (drop at script) at) ≡ Ok (None, r)) where
     abbrev pub over : (g.actions ≡ []) × (at < length script)
     over = ends f script at r g.reads seen
 
@@ -135,14 +137,14 @@ module _ {script : List ℕ} {f : Format} {whole out₀ : List ℕ} {place : ℕ
         subst (λ (z : List ℕ). Piece write place z out₀ e out') (sym w)
         (piece_then g.told closing (subst (λ (z : List ℕ). Fits write place z out₀) w g.fits) g.piece p)
 
-  pub no-bad : (r : ℕ) → action_read (one (action_form f) (drop at script) at) ≡ Bad r → ⊥
+  pub no-bad : (d : BadAt) → action_read (one (action_form f) (drop at script) at) ≡ Err d → ⊥
   no-bad r e = never f script at r g.reads e
 
 -- ---- the same of rows: no row holds the last message, so it is one that there is
 pub record Going (script : List ℕ) (f : Format) (whole out₀ : List ℕ) (place : ℕ) (write : Bool) (count : ℕ) (kind : Kind) (used n : ℕ) (b : Books)
     (cs : List (List ℕ)) (h : Hall) (t : Tally) (at end : ℕ) (out : List ℕ) : Type 0 where
   pub stands : Stands count kind used n b cs h
-  pub last : LastMessage
+  pub last : Option Envelope
   pub turn : Turn script f whole out₀ place write (sys_of count kind last cs used b h) t at end out
 
 pub starts : {script : List ℕ} {from : ℕ} {f : Format} {out : List ℕ} {place : ℕ} {write : Bool} {count : ℕ} {kind : Kind} {used n : ℕ} {b : Books}
@@ -170,7 +172,7 @@ starts p = record {
 module _ {script : List ℕ} {f : Format} {whole out₀ : List ℕ} {place : ℕ} {write : Bool} {count : ℕ} {kind : Kind} {used n : ℕ} {b : Books}
     {cs : List (List ℕ)} {h : Hall} {t : Tally} {at end : ℕ} {out : List ℕ}
     (g : Going script f whole out₀ place write count kind used n b cs h t at end out)
-    (a : Action) (r : ℕ) (seen : action_read (one (action_form f) (drop at script) at) ≡ Act a r)
+    (a : Action) (r : ℕ) (seen : action_read (one (action_form f) (drop at script) at) ≡ Ok (Some a, r))
     (s : Sent) (cs' : List (List ℕ)) (h' : Hall) (mv : Moved count a kind used n b cs h s cs' h') where
   step_is : Took (sys_of count kind g.last cs used b h) a s.answer (sys_of count kind (last_now mv g.last g.turn.formed) cs' s.used b h')
   step_is = took mv g.last g.turn.formed

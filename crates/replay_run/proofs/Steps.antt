@@ -9,8 +9,8 @@ use borrow.Author.Tests.{eqb-true}
 use Rattle.lists.specs.Lists.{choose}
 use Rattle.types.specs.declared.Action.{Action}
 use Rattle.types.specs.declared.Kind.{Kind}
-use Rattle.types.specs.declared.LastMessage.{LastMessage}
-use Rattle.answers.specs.declared.Answer.{Answer}
+use Rattle.std.specs.Prelude.{Option}
+use Rattle.answers.specs.Answers.{Answer}
 use Rattle.answers.specs.Answers.{answer_number, is_done}
 use Rattle.rules.specs.Outcome.{Outcome, done, refused, base}
 use Rattle.rules.specs.System.{Sys, Next, systems, act}
@@ -22,6 +22,7 @@ use Rattle.rules.proofs.Formed.{step-formed}
 use Rattle.net_rows.specs.declared.Sent.{Sent}
 use Rattle.sys_moves.specs.Views.{last_then}
 use Rattle.sys_all_rows.specs.Views.{Hall, Books, sys_of, Moved}
+use Rattle.types.specs.declared.Envelope.{Envelope}
 
 -- From m an action gave this answer, and leaves m'.
 pub record Took (m : Sys) (a : Action) (k : Answer) (m' : Sys) : Type 0 where
@@ -51,7 +52,7 @@ took-formed {m} {m'} {a} t w = ap (well_formed base) t.view ∙ after-formed m (
 
 -- ---- by the rows
 module _ {count : ℕ} {a : Action} {kind : Kind} {used n : ℕ} {b : Books} {cs : List (List ℕ)} {h : Hall} {r : Sent} {cs' : List (List ℕ)} {h' : Hall}
-    (mv : Moved count a kind used n b cs h r cs' h') (last : LastMessage) (formed : well_formed base (sys_of count kind last cs used b h) ≡ true) where
+    (mv : Moved count a kind used n b cs h r cs' h') (last : Option Envelope) (formed : well_formed base (sys_of count kind last cs used b h) ≡ true) where
   abbrev m : Sys
   m = sys_of count kind last cs used b h
 
@@ -59,7 +60,7 @@ module _ {count : ℕ} {a : Action} {kind : Kind} {used n : ℕ} {b : Books} {cs
   same_step = sym (formed-step base m a formed)
 
   -- The last message is another where the action is done.
-  abbrev pub last_now : LastMessage
+  abbrev pub last_now : Option Envelope
   last_now = choose (is_done r.answer) (last_then kind a last) last
 
   pub took : Took m a r.answer (sys_of count kind last_now cs' r.used b h')

@@ -1,11 +1,11 @@
 -- What the inner function of a run is held to, which works on rows. No public contract cites this file.
 -- Assumes nothing.
-use Rattle.std.specs.Prelude.{ℕ, ◌≤◌, Bool, true, ◌≡◌, List, length, drop}
+use Rattle.std.specs.Prelude.{ℕ, ◌≤◌, Bool, true, ◌≡◌, List, length, drop, Option}
 use Rattle.types.specs.Capacities.{most_bytes}
 use Rattle.types.specs.declared.Action.{Action}
 use Rattle.types.specs.declared.Format.{Format}
 use Rattle.types.specs.declared.Kind.{Kind}
-use Rattle.types.specs.declared.LastMessage.{LastMessage}
+use Rattle.types.specs.declared.Envelope.{Envelope}
 use Rattle.layout.specs.Read.{read}
 use Rattle.rules.specs.Outcome.{base}
 use Rattle.rules.specs.WellFormed.{well_formed}
@@ -18,7 +18,7 @@ use Rattle.replay_run.specs.Views.{run_text}
 pub record Plays (script : List ℕ) (from : ℕ) (f : Format) (out : List ℕ) (place : ℕ) (write : Bool) (count : ℕ) (kind : Kind) (used n : ℕ)
     (b : Books) (cs : List (List ℕ)) (h : Hall) : Type 0 where
   pub stands : Stands count kind used n b cs h
-  pub last : LastMessage
+  pub last : Option Envelope
   pub formed : well_formed base (sys_of count kind last cs used b h) ≡ true
   pub actions : List Action
   pub left : List ℕ

@@ -4,18 +4,17 @@
 #![tactic(auto)]
 
 ghost use Rattle.std.specs.Prelude.{◌≡◌, ◌+◌, ◌<◌};
-ghost use Rattle.sys_all_rows.specs.Views.{hall_of, books_of};
 ghost use Rattle.replay_run.specs.Views.{tallied, Runs, Writes};
 ghost use Rattle.replay_run.specs.Plays.{Plays, Played};
 
 use answers::number_of;
-use link_rows::{RECORD, ROW};
 use net_layout::cells_of;
 use replay_lines::{answer_line, done_line};
-use script_records::{ActionRead, read_action};
+use script_records::read_action;
 use sys_all_rows::{act_in, lay_out_actors, lay_out_tables};
+use sys_rows::{ActorRows, NetRows, TableRows};
 use sys_system::System;
-use types::{Format, Kind, MOST_ACTORS, MOST_ENTRIES, MOST_PENDING, MOST_RULES};
+use types::{Format, MOST_ACTORS, MOST_RULES};
 
 // How many answers were 0, 1 and others.
 #[derive(Clone, Copy)]
@@ -25,33 +24,21 @@ pub struct Tally {
     pub refused: u64,
 }
 
-// One answer more.
-fn count_answer(t: Tally, number: u64) -> Tally
-    requires { t.next + t.ignored + t.refused < 4294967296 }
-    ensures { result ≡ tallied number t }
-{
-    if number == 0 {
-        return Tally {
-            next: t.next + 1,
-            ignored: t.ignored,
-            refused: t.refused,
-        };
-    }
-    if number == 1 {
-        return Tally {
-            next: t.next,
-            ignored: t.ignored + 1,
-            refused: t.refused,
-        };
-    }
-    Tally {
-        next: t.next,
-        ignored: t.ignored,
-        refused: t.refused + 1,
+impl Tally {
+    // One answer more.
+    fn count(&mut self, number: u64)
+        requires { self.old.next + self.old.ignored + self.old.refused < 4294967296 }
+        ensures { self.new ≡ tallied number self.old }
+    {
+        match number {
+            0 => self.next += 1,
+            1 => self.ignored += 1,
+            _ => self.refused += 1,
+        }
     }
 }
 
-// From the actions' place on, on lent rows: of the cells `used` are in use, and there are `len` messages.
+// From the actions' place on, on lent rows. A loop: each record says where the next one begins.
 fn play(
     script: &[u8],
     from: usize,
@@ -59,26 +46,16 @@ fn play(
     out: &mut [u8],
     place: usize,
     write: bool,
-    cells: &mut [[u64; 4]; MOST_ENTRIES],
-    lives: &mut [[u64; ROW]; MOST_ACTORS],
-    pends: &mut [[[u64; RECORD]; MOST_PENDING]; MOST_ACTORS],
-    kepts: &mut [[u64; ROW]; MOST_ACTORS],
-    storeds: &mut [[[u64; RECORD]; MOST_PENDING]; MOST_ACTORS],
-    tables: &[[[u64; 16]; MOST_RULES]; MOST_ACTORS],
-    rules: &[usize; MOST_ACTORS],
-    kind: Kind,
-    first: usize,
-    sum: u64,
+    net: &mut NetRows,
+    actors: &mut [ActorRows; MOST_ACTORS],
+    tables: &[TableRows; MOST_ACTORS],
     count: usize,
 ) -> usize
-    requires { Plays script.now from f out.old place write count kind first sum (books_of tables.now rules.now) cells.old
-        (hall_of lives.old pends.old kepts.old storeds.old) }
-    ensures { Played script.now from f out.old place write count kind first sum
-        (books_of tables.now rules.now) cells.old
-        (hall_of lives.old pends.old kepts.old storeds.old) result out.new }
+    requires { Plays script.now from f out.old place write count net.old.kind net.old.used net.old.len
+        tables.now net.old.cells actors.old }
+    ensures { Played script.now from f out.old place write count net.old.kind net.old.used net.old.len
+        tables.now net.old.cells actors.old result out.new }
 {
-    let mut used = first;
-    let mut len = sum;
     let mut totals = Tally {
         next: 0,
         ignored: 0,
@@ -87,27 +64,27 @@ fn play(
     let mut at = from;
     let mut end = place;
     loop {
-        let x = read_action(script, at, f);
-        match x {
-            ActionRead::Act(a, after) => {
-                let t = act_in(
-                    cells, lives, pends, kepts, storeds, tables, rules, kind, used, len, count, a,
-                );
-                used = t.used;
-                len = t.len;
-                let answer = t.answer;
-                let number = number_of(answer);
-                end = answer_line(out, end, write, number, len);
-                totals = count_answer(totals, number);
-                at = after;
-            }
-            ActionRead::End(_) => {
-                return done_line(out, end, write, totals.next, totals.ignored, totals.refused);
-            }
-            ActionRead::Bad(_) => {
-                return end;
-            }
-        }
+        let Ok((action, after)) = read_action(script, at, f) else {
+            return end;
+        };
+        let Some(a) = action else {
+            return done_line(out, end, write, totals.next, totals.ignored, totals.refused);
+        };
+        let answer = act_in(net, actors, tables, count, a);
+        let number = number_of(answer);
+        end = answer_line(out, end, write, number, net.len);
+        totals.count(number);
+        at = after;
+    }
+}
+
+// The rows of a table without rules, until its own are laid out.
+fn no_rules() -> TableRows
+    ensures { result.used ≡ 0 }
+{
+    TableRows {
+        rows: [[0; 16]; MOST_RULES],
+        used: 0,
     }
 }
 
@@ -126,28 +103,16 @@ pub fn run(
 {
     let count = s.count;
     let n = s.network;
-    let kind = n.kind;
-    let used = n.used;
-    let entries = n.entries;
-    let len = net_network::len(n);
-    let mut cells = cells_of(entries, used);
-    let actors = s.actors;
-    let mut lives = [[0u64; ROW]; MOST_ACTORS];
-    let mut pends = [[[0u64; RECORD]; MOST_PENDING]; MOST_ACTORS];
-    let mut kepts = [[0u64; ROW]; MOST_ACTORS];
-    let mut storeds = [[[0u64; RECORD]; MOST_PENDING]; MOST_ACTORS];
-    lay_out_actors(
-        actors,
-        count,
-        &mut lives,
-        &mut pends,
-        &mut kepts,
-        &mut storeds,
-    );
-    let ts = s.tables;
-    let mut tables = [[[0u64; 16]; MOST_RULES]; MOST_ACTORS];
-    let mut rules = [0usize; MOST_ACTORS];
-    lay_out_tables(ts, count, &mut tables, &mut rules);
+    let mut net = NetRows {
+        cells: cells_of(n.entries, n.used),
+        kind: n.kind,
+        used: n.used,
+        len: net_network::len(n),
+    };
+    let mut actors = [ActorRows::fresh(); MOST_ACTORS];
+    lay_out_actors(s.actors, count, &mut actors);
+    let mut tables = [no_rules(); MOST_ACTORS];
+    lay_out_tables(s.tables, count, &mut tables);
     play(
         script,
         from,
@@ -155,16 +120,9 @@ pub fn run(
         out,
         place,
         write,
-        &mut cells,
-        &mut lives,
-        &mut pends,
-        &mut kepts,
-        &mut storeds,
+        &mut net,
+        &mut actors,
         &tables,
-        &rules,
-        kind,
-        used,
-        len,
         count,
     )
 }

@@ -31,8 +31,9 @@ use Rattle.rules.proofs.Answers.{start_numbers, start-answers, start-done}
 use Rattle.rules.proofs.Formed.{start-well}
 use Rattle.net_network.specs.Views.{net_view}
 use Rattle.answers.specs.Answers.{is_done}
-use Rattle.script_check.specs.declared.Layout.TheVariants as layout
+use Rattle.std.specs.Prelude.{Ok, Err}
 use Rattle.script_check.specs.Views.{layout_of}
+use Rattle.script_check.proofs.Says.{same_place}
 use Rattle.script_check.proofs.Whole.{Parts}
 use Rattle.replay_lines.specs.Pieces.{put, Fits, Piece}
 use Rattle.replay_lines.proofs.Laws.{fits-first, fits-then, piece_then}
@@ -188,16 +189,16 @@ good-longest s p =
     (start-answers base (setup s p) p.opening.tables p.opening.envelopes) p.short p.reads_actions)
 
 -- ---- a script whose layout is bad
-said-bad : (s : List ℕ) (p : ℕ) → layout_of (read_script versions s) ≡ layout.Bad p → replay base versions s ≡ line bad_word (p ∷ [])
+said-bad : (s : List ℕ) (p : ℕ) → layout_of (read_script versions s) ≡ Err (record { 0 = p }) → replay base versions s ≡ line bad_word (p ∷ [])
 unfolding replay replayed
 said-bad s p e = go (read_script versions s) e
   where
-    go : (x : Reading _) → layout_of x ≡ layout.Bad p → replayed base x ≡ line bad_word (p ∷ [])
+    go : (x : Reading _) → layout_of x ≡ Err (record { 0 = p }) → replayed base x ≡ line bad_word (p ∷ [])
     go (read a ys q) h = let z : ◌≡◌ {A = ℕ} 0 1 = cc in absurd (omega arith)
-    go (bad_at q) h = let z : q ≡ p = cc in rw z
+    go (bad_at q) h = let z : q ≡ p = same_place h in rw z
 
 -- ---- the buffer
-pub told-bad : (s : List ℕ) (p : ℕ) {out left : List ℕ} {r : ℕ} → layout_of (read_script versions s) ≡ layout.Bad p
+pub told-bad : (s : List ℕ) (p : ℕ) {out left : List ℕ} {r : ℕ} → layout_of (read_script versions s) ≡ Err (record { 0 = p })
     → Told (line bad_word (p ∷ [])) out r left
     → Told (replay base versions s) out r left
 told-bad s p {out} {left} {r} e t = subst (λ (l : List ℕ). Told l out r left) (sym (said-bad s p e)) t

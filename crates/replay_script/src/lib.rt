@@ -7,7 +7,6 @@ ghost use Rattle.types.specs.Capacities.{most_bytes};
 ghost use Rattle.rules.specs.Outcome.{base};
 ghost use Rattle.rules.specs.Script.{versions, read_script};
 ghost use Rattle.rules.specs.Program.{line, bad_word, replay};
-ghost use Rattle.script_check.specs.declared.Layout.TheVariants.{Good};
 ghost use Rattle.script_check.specs.Views.{layout_of};
 ghost use Rattle.replay_lines.specs.Pieces.{Fits, Piece};
 ghost use Rattle.replay_script.specs.Views.{longest, Told};
@@ -16,7 +15,8 @@ use answers::{is_done, number_of};
 use replay_lines::{bad_line, done_line, start_line};
 use replay_run::run;
 use replay_start::open;
-use script_check::{Layout, check_script};
+use script_check::check_script;
+use script_places::BadAt;
 use script_records::format_of;
 
 // The most bytes that the first line and the last have together, of 80 each. They frame the lines of the actions.
@@ -25,9 +25,9 @@ pub const MOST_FRAME: usize = 160;
 // The most bytes that the line of an action has: a digit, a blank, the 20 digits of a length, and the end of the line.
 pub const MOST_LINE: usize = 23;
 
-// A script whose layout is good: the start, and if it is done the run.
+// A script whose layout is good: the start, and if it is done the run. With `write` false it is only measured, as its lines are.
 fn tell_run(script: &[u8], out: &mut [u8], write: bool) -> usize
-    requires { (layout_of (read_script versions script.now) ≡ Good) × Fits write 0 (replay base versions script.now) out.old }
+    requires { (layout_of (read_script versions script.now) ≡ Ok tt) × Fits write 0 (replay base versions script.now) out.old }
     ensures { Piece write 0 (replay base versions script.now) out.old result out.new }
 {
     let o = open(script);
@@ -55,9 +55,10 @@ fn room_for(bytes: usize) -> usize
     MOST_FRAME + MOST_LINE * bytes
 }
 
-// Where the buffer is long enough for any script of this length, the output is not measured first.
+// Where the buffer is long enough for any script of this length, the output is not measured first. Measuring before writing stands
+// here and in `put_bad`: in one function that takes it as a closure, the clauses would have to name the text, which is no parameter.
 fn put_run(script: &[u8], out: &mut [u8]) -> usize
-    requires { layout_of (read_script versions script.now) ≡ Good }
+    requires { layout_of (read_script versions script.now) ≡ Ok tt }
     ensures { Told (replay base versions script.now) out.old result out.new }
 {
     if room_for(script.len()) <= out.len() {
@@ -87,9 +88,8 @@ pub fn replay(script: &[u8], out: &mut [u8]) -> usize
     ensures bytes { out.new ≡ choose (leb result (length out.old)) (replay base versions script.now ++ drop result out.old)
         out.old }
 {
-    let layout = check_script(script);
-    match layout {
-        Layout::Bad(place) => put_bad(out, place),
-        Layout::Good => put_run(script, out),
+    match check_script(script) {
+        Ok(()) => put_run(script, out),
+        Err(BadAt(place)) => put_bad(out, place),
     }
 }

@@ -3,6 +3,7 @@
 use Prim.Native.Nat.{ℕ, zero, suc, ◌≤◌}
 use native.Mathlib.Omega.{arith}
 use mathlib.Core.Bool.{Bool, true}
+use Rattle.std.specs.Prelude.{Ok}
 use mathlib.Core.Path.{◌≡◌, refl, sym, ap, subst, ◌∙◌}
 use mathlib.Core.List.{List, [], ◌∷◌, map}
 use lib.ListN.{length, take, length-map}
@@ -31,11 +32,10 @@ use Rattle.sys_answered.specs.declared.Answered.{Answered}
 use Rattle.sys_answered.specs.Views.{answered_of}
 use Rattle.sys_start.specs.declared.Given.{Given}
 use Rattle.sys_start.specs.Views.{start_laid, started}
-use Rattle.script_opening.specs.declared.OpeningRead.{OpeningRead}
-use Rattle.script_opening.specs.Views.{zero_envelope, opening_read}
-use Rattle.script_opening.proofs.Readings.{told-found, few-rules, few-envelopes, few-actors}
+use Rattle.script_opening.specs.declared.Opening as held
+use Rattle.script_opening.specs.Views.{zero_envelope, opening_held, opening_read}
+use Rattle.script_opening.proofs.Readings.{found_is, few-rules, few-envelopes, few-actors}
 use Rattle.script_opening.proofs.Kept.{both, kept-opening}
-use Rattle.script_opening.proofs.Lists.{opening-tells}
 use Rattle.replay_start.specs.declared.Opened.{Opened}
 use Rattle.replay_start.specs.Views.{opened_of}
 
@@ -125,17 +125,17 @@ module _ {o : Opening} (w : Laid o) {tables : List Table} (laid : tables ≡ pad
 
 -- ---- the answer, from what the opening's answer holds
 pub opened-is
-    : (s : List ℕ) {o : OpeningRead} {r : Answered} → o ≡ opening_read (opening_from versions s 0) → o.found ≡ true
-    → r ≡ answered_of (system_of blank) (started o.kind o.count o.tables (record { list = o.list; used = o.used }))
-    → ◌≡◌ {A = Opened} (record { answered = r; version = o.version; next = o.next }) (opened_of (opening_from versions s 0))
-opened-is s {o} {r} e g k =
-    let w = told-found opening-tells (opening_from versions) s 0 e (kept-opening versions) g in
+    : (s : List ℕ) {o : held.Opening} {q : ℕ} {r : Answered} → Ok (o, q) ≡ opening_read (opening_from versions s 0)
+    → r ≡ answered_of (system_of blank) (started o.kind o.tables.used o.tables.list (record { list = o.envelopes.list; used = o.envelopes.used }))
+    → ◌≡◌ {A = Opened} (record { answered = r; version = o.version; next = q }) (opened_of (opening_from versions s 0))
+opened-is s {o} {q} {r} e k =
+    let w = found_is opening_held (opening_from versions) s 0 (kept-opening versions) e in
     let x : Opening = w.value in
-    let given : Given = record { list = o.list; used = o.used } in
-    let n = ap (λ (y : OpeningRead). y.count) w.told in
-    let q = ap (λ (y : OpeningRead). y.kind) w.told in
-    let m = started-is (opening-laid s w.reads) (ap (λ (y : OpeningRead). y.tables) w.told) x.kind given
-    (ap (λ (y : OpeningRead). y.list) w.told)
-    (ap (λ (y : OpeningRead). y.used) w.told) in
-    let v = k ∙ (λ i. answered_of (system_of blank) (started (q i) (n i) o.tables given)) ∙ ap (answered_of (system_of blank)) m in
-    (λ i. record { answered = v i; version = (w.told i).version; next = o.next }) ∙ sym (ap opened_of w.reads)
+    let given : Given = record { list = o.envelopes.list; used = o.envelopes.used } in
+    let n = ap (λ (y : held.Opening). y.tables.used) w.told in
+    let p = ap (λ (y : held.Opening). y.kind) w.told in
+    let m = started-is (opening-laid s w.reads) (ap (λ (y : held.Opening). y.tables.list) w.told) x.kind given
+    (ap (λ (y : held.Opening). y.envelopes.list) w.told)
+    (ap (λ (y : held.Opening). y.envelopes.used) w.told) in
+    let v = k ∙ (λ i. answered_of (system_of blank) (started (p i) (n i) o.tables.list given)) ∙ ap (answered_of (system_of blank)) m in
+    (λ i. record { answered = v i; version = (w.told i).version; next = q }) ∙ sym (ap opened_of w.reads)

@@ -6,14 +6,15 @@ ghost use Rattle.layout.specs.Read.{bad_at};
 ghost use Rattle.rules.specs.Script.{versions, opening_from};
 ghost use Rattle.replay_start.specs.Views.{opened_of};
 
-use answers::Answer;
+use answers::Refusal;
 use script_opening::read_opening;
+use script_places::BadAt;
 use sys_answered::Answered;
 use sys_start::{Given, start};
 use sys_system::blank;
 
 // The start's answer, the script's version, and the place of the first action. What cannot be read starts nothing, and is bad at that
-// place.
+// place: a struct and no Result, since it is answered as a start is, by 11, and who opens a script has checked its layout.
 #[derive(Clone, Copy)]
 pub struct Opened {
     pub answered: Answered,
@@ -27,7 +28,7 @@ fn unreadable(place: usize) -> Opened
     let s = blank();
     Opened {
         answered: Answered {
-            answer: Answer::Unreadable,
+            answer: Err(Refusal::Unreadable),
             system: s,
         },
         version: 0,
@@ -39,18 +40,18 @@ fn unreadable(place: usize) -> Opened
 pub fn open(script: &[u8]) -> Opened
     ensures { result ≡ opened_of (opening_from versions script.now 0) }
 {
-    let o = read_opening(script);
-    let found = o.found;
-    let tables = o.tables;
-    let list = o.list;
-    let used = o.used;
-    if !found {
-        return unreadable(o.next);
-    }
-    let answered = start(o.kind, o.count, tables, Given { list, used });
-    Opened {
-        answered,
-        version: o.version,
-        next: o.next,
+    match read_opening(script) {
+        Ok((o, next)) => {
+            let tables = o.tables.list;
+            let list = o.envelopes.list;
+            let used = o.envelopes.used;
+            let answered = start(o.kind, o.tables.used, tables, Given { list, used });
+            Opened {
+                answered,
+                version: o.version,
+                next,
+            }
+        }
+        Err(BadAt(place)) => unreadable(place),
     }
 }

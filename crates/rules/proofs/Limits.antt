@@ -4,18 +4,16 @@
 use Prim.Native.Nat.{ℕ, zero, suc}
 use mathlib.Core.Path.{◌≡◌, refl}
 use mathlib.Core.Bool.{true, false}
-use mathlib.Core.Option.{none}
+use Rattle.std.specs.Prelude.{Some, None}
 use mathlib.Core.List.{List, [], ◌∷◌, ◌++◌}
 use lib.ListN.{replicate}
 use Rattle.types.specs.declared.Pending.{Pending}
 use Rattle.types.specs.declared.InnerCommand.{InnerCommand}
 use Rattle.types.specs.declared.InnerCommand.TheVariants as inner
 use Rattle.types.specs.declared.Kind.TheVariants.{Ordered, UnorderedDuplicating, UnorderedNonDuplicating}
-use Rattle.types.specs.declared.LastMessage.TheVariants as last
 use Rattle.types.specs.declared.Rule.{Rule}
 use Rattle.types.specs.declared.RuleCommand.{RuleCommand}
 use Rattle.types.specs.declared.RuleCommand.TheVariants as rule
-use Rattle.types.specs.declared.Storage.TheVariants as storage
 use Rattle.rules.specs.Outcome.{done, refused, base}
 use Rattle.types.specs.Capacities.{network}
 use Rattle.rules.specs.Timers.{set_timer}
@@ -32,7 +30,7 @@ use Rattle.rules.proofs.Opened.{opened}
 
 -- So many copies of a, and nothing else.
 abbrev copies : ℕ → Net
-copies n = record { kind = UnorderedNonDuplicating; entries = record { envelope = a; count = n } ∷ []; last = last.Nothing }
+copies n = record { kind = UnorderedNonDuplicating; entries = record { envelope = a; count = n } ∷ []; last = None }
 
 -- Messages 1 to n are pending.
 pub waits : ℕ → List Pending
@@ -40,11 +38,11 @@ waits zero = []
 waits (suc n) = waits n ++ pending (suc n) 1 7 ∷ []
 
 abbrev waiting : ℕ → Durable
-waiting n = record { next = record { 0 = suc n }; pending = waits n; taken = []; inner = storage.Nothing }
+waiting n = record { next = record { 0 = suc n }; pending = waits n; taken = []; inner = None }
 
 -- The next number is n, with these pending.
 abbrev next_is : ℕ → List Pending → Durable
-next_is n qs = record { next = record { 0 = n }; pending = qs; taken = []; inner = storage.Nothing }
+next_is n qs = record { next = record { 0 = n }; pending = qs; taken = []; inner = None }
 
 abbrev send7 : List InnerCommand
 send7 = inner.Send (id 1) (record { 0 = 7 }) ∷ []
@@ -61,7 +59,7 @@ abbrev to_source : ℕ → RuleCommand
 to_source d = rule.Send true (id d) false (record { 0 = 7 })
 
 abbrev in_state : ℕ → Actor
-in_state n = record { rules = []; crashed = false; timers = []; link = record { durable = fresh; state = n }; storage = none }
+in_state n = record { rules = []; crashed = false; timers = []; link = record { durable = fresh; state = n }; storage = None }
 
 abbrev kinded : ℕ → Setup
 kinded k = record { kind = k }
@@ -71,8 +69,8 @@ alone n x = record { net = n; actors = x ∷ [] }
 
 pub record Limits : Type 0 where
   -- entries 128 and 129, copies 65,535 and 65,536
-  pub entry-128 : send base.room b (net Ordered (replicate 127 a) last.Nothing) ≡ done (net Ordered (replicate 127 a ++ b ∷ []) last.Nothing)
-  pub entry-129 : send base.room b (net Ordered (replicate 128 a) last.Nothing) ≡ refused 8
+  pub entry-128 : send base.room b (net Ordered (replicate 127 a) None) ≡ done (net Ordered (replicate 127 a ++ b ∷ []) None)
+  pub entry-129 : send base.room b (net Ordered (replicate 128 a) None) ≡ refused 8
   pub copy-65535 : send base.room a (copies 65534) ≡ done (copies 65535)
   pub copy-65536 : send base.room a (copies 65535) ≡ refused 8
   -- pending 32 and 33, number 2^64 - 2 and the one after it; 6 before 7
@@ -136,8 +134,8 @@ pub record Limits : Type 0 where
   pub counts-65536 : well_formed base (alone (copies 65536) (in_state 0)) ≡ false
   pub waits-32 : well_formed base (sys Ordered [] (two [] (waiting 32))) ≡ true
   pub waits-33 : well_formed base (sys Ordered [] (two [] (waiting 33))) ≡ false
-  pub in-15 : well_formed base (alone (net Ordered [] last.Nothing) (in_state 15)) ≡ true
-  pub in-16 : well_formed base (alone (net Ordered [] last.Nothing) (in_state 16)) ≡ false
+  pub in-15 : well_formed base (alone (net Ordered [] None) (in_state 15)) ≡ true
+  pub in-16 : well_formed base (alone (net Ordered [] None) (in_state 16)) ≡ false
   pub timer-31 : well_formed base (sys Ordered [] (live [] fresh (network ∷ []) ∷ [])) ≡ true
   pub timer-32 : well_formed base (sys Ordered [] (live [] fresh (32 ∷ []) ∷ [])) ≡ false
   pub actors-8 : well_formed base (sys Ordered [] (replicate 8 (live [] fresh []))) ≡ true
@@ -147,14 +145,14 @@ pub record Limits : Type 0 where
   pub equal-entries : well_formed base (sys UnorderedDuplicating (a ∷ a ∷ []) (two [] fresh)) ≡ false
   pub equal-messages : well_formed base (sys Ordered (a ∷ a ∷ []) (two [] fresh)) ≡ true
   pub count-0 : well_formed base (alone (copies 0) (in_state 0)) ≡ false
-  pub last-on-kind-1 : well_formed base (alone (net UnorderedDuplicating [] (last.Delivered a)) (in_state 0)) ≡ true
-  pub last-on-kind-0 : well_formed base (alone (net Ordered [] (last.Delivered a)) (in_state 0)) ≡ false
+  pub last-on-kind-1 : well_formed base (alone (net UnorderedDuplicating [] (Some a)) (in_state 0)) ≡ true
+  pub last-on-kind-0 : well_formed base (alone (net Ordered [] (Some a)) (in_state 0)) ≡ false
   pub next-0 : well_formed base (sys Ordered [] (two [] (next_is 0 []))) ≡ false
   pub pending-at-next : well_formed base (sys Ordered [] (two [] (next_is 1 (pending 1 1 7 ∷ [])))) ≡ false
   pub pending-twice : well_formed base (sys Ordered [] (two [] (next_is 2 (pending 1 1 7 ∷ pending 1 1 7 ∷ [])))) ≡ false
-  pub crashed-with-timer : well_formed base (alone (net Ordered [] last.Nothing) (with_mark true (network ∷ []) (in_state 0))) ≡ false
-  pub stored-next-0 : well_formed base (alone (net Ordered [] last.Nothing) (with_storage (next_is 0 []) (in_state 0))) ≡ false
-  pub taken-from-none : well_formed base (alone (net Ordered [] last.Nothing) (with_storage (last_taken_is 0) (in_state 0))) ≡ false
+  pub crashed-with-timer : well_formed base (alone (net Ordered [] None) (with_mark true (network ∷ []) (in_state 0))) ≡ false
+  pub stored-next-0 : well_formed base (alone (net Ordered [] None) (with_storage (next_is 0 []) (in_state 0))) ≡ false
+  pub taken-from-none : well_formed base (alone (net Ordered [] None) (with_storage (last_taken_is 0) (in_state 0))) ≡ false
   pub set-timer-31 : set_timer 31 [] ≡ 31 ∷ []
   pub set-timer-32 : set_timer 32 [] ≡ []
   -- decimals, and the line of a script that cannot be read

@@ -4,7 +4,8 @@ use Prim.Native.Nat.{ℕ, ◌+◌, ◌-◌, ◌*◌, ◌/◌, ◌%◌, ◌^◌, 
 use native.Mathlib.Nat.{add-mul, mul_assoc, mod-lt, mul-mod_left, add-zero, add_comm, zero-div, lt_of_lt_of_le}
 use native.Mathlib.Omega.{arith}
 use mathlib.Core.Path.{◌≡◌, refl, sym, ap, ap₂, subst, ◌∙◌}
-use mathlib.Core.List.{List}
+use mathlib.Core.List.{List, [], ◌∷◌}
+use Rattle.std.specs.Int.{w64, from_be_bytes}
 use lib.ListN.{length, get_or}
 use lib.Arith.{digits_lt}
 use lib.Pow.{pow_pos, pow_mono, pow-add, shl_lt, shl_exact, shr_lt, shl-shr, shr-shr, high, low, mod-pow-add}
@@ -20,48 +21,42 @@ byte-is xs at i e h =
     let z : get_or xs (at / 8) 0 / 2 ^ 0 % 2 ^ 8 ≡ get_or xs i 0 = rw q (omega arith) in
     sym (w ∙ z)
 
--- two fields side by side, each moved up by itself, are both moved up
-pub raised
-    : (xs : List ℕ) (at next j k a b : ℕ) → next ≡ at + j → a ≡ field_at xs at j * 2 ^ (k + j) → b ≡ field_at xs next j * 2 ^ k
-    → a + b ≡ field_at xs at (j + j) * 2 ^ k
-raised xs at next j k a b n p q =
-    let x = field_at xs at j in
-    let y = field_at xs (at + j) j in
-    let e : x * 2 ^ (k + j) ≡ x * 2 ^ j * 2 ^ k = rw (add_comm k j, pow-add 2 j k) (sym (mul_assoc x (2 ^ j) (2 ^ k))) in
-    rw (p, q, n, e, ← add-mul (x * 2 ^ j) y (2 ^ k), ← field-add xs at j j)
+-- ---- bytes behind the k that were read
+module _ (xs : List ℕ) (i k n : ℕ) (e : n ≡ field_at xs (8 * i) (8 * k)) where
+  pub one_more : {j : ℕ} → j ≡ i + k → get_or xs j 0 < 256 → n * 256 + get_or xs j 0 ≡ field_at xs (8 * i) (8 * k + 8)
+  one_more {j} z h =
+      let m = 8 * k in
+      rw (field-add xs (8 * i) m 8, ← byte-is xs (8 * i + m) j (omega arith) h, e)
 
--- a field that is moved up fits, and nothing is moved out
-pub raised-fits : (xs : List ℕ) (at j k : ℕ) → j + k ≤ 64 → field_at xs at j * 2 ^ k < 2 ^ 64
-raised-fits xs at j k h = lt_of_lt_of_le (shl_lt j k (field_lt xs at j)) (pow_mono h)
-
-pub pair_is
-    : (xs : List ℕ) (i k : ℕ) → get_or xs i 0 < 256 → get_or xs (i + 1) 0 < 256 → k ≤ 48
-    → get_or xs i 0 * 2 ^ (k + 8) % 2 ^ 64 + get_or xs (i + 1) 0 * 2 ^ k % 2 ^ 64 ≡ field_at xs (8 * i) 16 * 2 ^ k
-pair_is xs i k g h l =
-    raised xs (8 * i) (8 * i + 8) 8 k _ _ refl
-    (byte-raised (8 * i) i (k + 8) refl g (omega arith))
-    (byte-raised (8 * i + 8) (i + 1) k (omega arith) h (omega arith))
-  where
-    byte-raised : (at i k : ℕ) → at ≡ 8 * i → get_or xs i 0 < 256 → k ≤ 56 → get_or xs i 0 * 2 ^ k % 2 ^ 64 ≡ field_at xs at 8 * 2 ^ k
-    byte-raised at i k e h g = shl_exact 8 k 64 h (omega arith) ∙ ap (λ (x : ℕ). x * 2 ^ k) (byte-is xs at i e h)
-
--- ---- the last bytes, of which those from byte i up to byte j were read
-module _ (xs : List ℕ) (i j n : ℕ) (g : i ≤ j) (e : n ≡ field_at xs (8 * i) (8 * (j - i))) where
-  pub byte_more : get_or xs j 0 < 256 → n * 256 + get_or xs j 0 ≡ field_at xs (8 * i) (8 * (j + 1 - i))
-  byte_more h =
-      let m = 8 * (j - i) in
-      let p : 8 * (j + 1 - i) ≡ m + 8 = omega arith in
-      rw (p, field-add xs (8 * i) m 8, ← byte-is xs (8 * i + m) j (omega arith) h, e)
-
-  pub zeros-behind : j ≤ i + 8 → length xs ≤ j → n * 2 ^ (64 - 8 * (j - i)) % 2 ^ 64 ≡ field_at xs (8 * i) 64
+  -- the last ones: no more than eight were left
+  pub zeros-behind : k ≤ 8 → length xs ≤ i + k → n * 2 ^ (64 - 8 * k) % 2 ^ 64 ≡ field_at xs (8 * i) 64
   zeros-behind h l =
-      let m = 8 * (j - i) in
+      let m = 8 * k in
       let r = 64 - m in
       let q : m + r ≡ 64 = omega arith in
       let z : field_at xs (8 * i + m) r ≡ 0 = field_past xs (8 * i + m) r (omega arith) in
       let f : n < 2 ^ m = rw e (field_lt xs (8 * i) m) in
       shl_exact m r 64 f (omega arith) ∙ ap (λ (x : ℕ). x * 2 ^ r) e
       ∙ sym (ap (field_at xs (8 * i)) (sym q) ∙ field-add xs (8 * i) m r ∙ ap (λ (x : ℕ). field_at xs (8 * i) m * 2 ^ r + x) z ∙ add-zero _)
+
+-- eight bytes, most significant first
+pub eight_bytes
+    : (xs : List ℕ) (i : ℕ) → ((j : ℕ) → get_or xs j 0 < 256)
+    → from_be_bytes w64 (
+    get_or xs i 0 ∷ get_or xs (i + 1) 0 ∷ get_or xs (i + 2) 0 ∷ get_or xs (i + 3) 0
+    ∷ get_or xs (i + 4) 0 ∷ get_or xs (i + 5) 0 ∷ get_or xs (i + 6) 0 ∷ get_or xs (i + 7) 0 ∷ [])
+    ≡ field_at xs (8 * i) 64
+unfolding field_at
+eight_bytes xs i h =
+    let a0 = one_more xs i 0 0 refl {j = i} (omega arith) (h i) in
+    let a1 = one_more xs i 1 _ a0 {j = i + 1} (omega arith) (h (i + 1)) in
+    let a2 = one_more xs i 2 _ a1 {j = i + 2} (omega arith) (h (i + 2)) in
+    let a3 = one_more xs i 3 _ a2 {j = i + 3} (omega arith) (h (i + 3)) in
+    let a4 = one_more xs i 4 _ a3 {j = i + 4} (omega arith) (h (i + 4)) in
+    let a5 = one_more xs i 5 _ a4 {j = i + 5} (omega arith) (h (i + 5)) in
+    let a6 = one_more xs i 6 _ a5 {j = i + 6} (omega arith) (h (i + 6)) in
+    let a7 = one_more xs i 7 _ a6 {j = i + 7} (omega arith) (h (i + 7)) in
+    omega (arith, a7)
 
 -- the first k of k + m bits, and the last m of them moved to the front
 module _ (xs : List ℕ) (at k m : ℕ) {w : ℕ} (e : w ≡ field_at xs at (k + m)) where

@@ -3,7 +3,7 @@
 -- Assumes nothing.
 use Prim.Native.Nat.{ℕ, zero, suc, ◌+◌, ◌≤◌, ◌<◌}
 use native.Mathlib.Omega.{arith}
-use mathlib.Core.Bool.{Bool, true, false}
+use Rattle.std.specs.Prelude.{Some, None, Result, Ok, Err}
 use mathlib.Core.Path.{◌≡◌, refl, sym, ap, ◌∙◌, subst}
 use mathlib.Core.List.{List, [], ◌∷◌}
 use lib.ListN.{length, drop, length-drop}
@@ -12,14 +12,11 @@ use Rattle.layout.specs.Read.{Reading, read, bad_at, Reader, placed, one, onward
 use Rattle.types.specs.declared.Action.{Action}
 use Rattle.types.specs.declared.Format.{Format}
 use Rattle.rules.specs.Script.{Item, end, item, action_form, closed, after_item, actions_within, actions_from}
-use Rattle.script_records.specs.declared.ActionRead.{ActionRead}
-use Rattle.script_records.specs.declared.ActionRead.TheVariants.{Act, End, Bad}
-use Rattle.script_records.specs.Views.{action_read}
+use Rattle.script_places.specs.declared.BadAt.{BadAt}
+use Rattle.script_records.specs.Views.{action_held, action_read}
 use Rattle.script_records.proofs.Laws.{Sized, action-sized}
-use Rattle.script_opening.proofs.Readings.{Telling, told-found, told-bad}
+use Rattle.script_opening.proofs.Readings.{found_is, missed}
 use Rattle.script_opening.proofs.Kept.{kept-one, both}
-use Rattle.script_check.specs.declared.Layout.{Layout}
-use Rattle.script_check.specs.declared.Layout.TheVariants as layout
 use Rattle.script_check.specs.Views.{layout_of}
 
 -- ---- a record that is read ends after its place
@@ -87,45 +84,28 @@ module _ (f : Format) where
     from-bad h = ap (λ (m : Reading Item). onward m (λ i. after_item i (actions_within (length (drop at s)) f))) h
 
   -- ---- what the answer of the reader says
-  abbrev action_good : ActionRead → Bool
-  action_good (Act a p) = true
-  action_good (End p) = true
-  action_good (Bad p) = false
+  is-item : (i : Item) {a : Action} → Some a ≡ action_held i → i ≡ item a
+  is-item end {a} e = let z : ◌≡◌ {A = ℕ} 0 1 = cc in absurd (omega arith)
+  is-item (item b) {a} e = let x : b ≡ a = cc in ap item x
 
-  abbrev action_place : ActionRead → ℕ
-  action_place (Act a p) = p
-  action_place (End p) = p
-  action_place (Bad p) = p
-
-  tells-yes : (i : Item) (xs : List ℕ) (p : ℕ) → (action_good (action_read (read i xs p)) ≡ true) × (action_place (action_read (read i xs p)) ≡ p)
-  tells-yes end xs p = (refl, refl)
-  tells-yes (item a) xs p = (refl, refl)
-
-  action-tells : Telling action_read action_good action_place
-  action-tells = record { yes = tells-yes; no = λ p. (refl, refl) }
-
-  is-item : (i : Item) (xs : List ℕ) (p : ℕ) {a : Action} {q : ℕ} → Act a q ≡ action_read (read i xs p) → i ≡ item a
-  is-item end xs p {a} {q} e = let z : ◌≡◌ {A = ℕ} 0 1 = cc in absurd (omega arith)
-  is-item (item b) xs p {a} {q} e = let x : b ≡ a = cc in ap item x
-
-  is-end : (i : Item) (xs : List ℕ) (p : ℕ) {q : ℕ} → End q ≡ action_read (read i xs p) → i ≡ end
-  is-end end xs p e = refl
-  is-end (item b) xs p {q} e = let z : ◌≡◌ {A = ℕ} 0 1 = cc in absurd (omega arith)
+  is-end : (i : Item) → None ≡ action_held i → i ≡ end
+  is-end end e = refl
+  is-end (item b) e = let z : ◌≡◌ {A = ℕ} 0 1 = cc in absurd (omega arith)
 
   module _ (s : List ℕ) (at : ℕ) where
-    pub act-read : {a : Action} {r : ℕ} → Act a r ≡ action_read (one (action_form f) (drop at s) at)
+    pub act-read : {a : Action} {r : ℕ} → Ok (Some a, r) ≡ action_read (one (action_form f) (drop at s) at)
         → one (action_form f) (drop at s) at ≡ read (item a) (drop r s) r
     act-read {a} {r} e =
-        let w = told-found action-tells (one (action_form f)) s at e (kept-one (action_form f)) refl in
-        w.reads ∙ ap (λ (i : Item). read i (drop r s) r) (is-item w.value (drop r s) r w.told)
+        let w = found_is action_held (one (action_form f)) s at (kept-one (action_form f)) e in
+        w.reads ∙ ap (λ (i : Item). read i (drop r s) r) (is-item w.value w.told)
 
-    pub end_read : {r : ℕ} → End r ≡ action_read (one (action_form f) (drop at s) at) → one (action_form f) (drop at s) at ≡ read end (drop r s) r
+    pub end_read : {r : ℕ} → Ok (None, r) ≡ action_read (one (action_form f) (drop at s) at) → one (action_form f) (drop at s) at ≡ read end (drop r s) r
     end_read {r} e =
-        let w = told-found action-tells (one (action_form f)) s at e (kept-one (action_form f)) refl in
-        w.reads ∙ ap (λ (i : Item). read i (drop r s) r) (is-end w.value (drop r s) r w.told)
+        let w = found_is action_held (one (action_form f)) s at (kept-one (action_form f)) e in
+        w.reads ∙ ap (λ (i : Item). read i (drop r s) r) (is-end w.value w.told)
 
-    pub bad-read : {r : ℕ} → Bad r ≡ action_read (one (action_form f) (drop at s) at) → one (action_form f) (drop at s) at ≡ bad_at r
-    bad-read e = told-bad action-tells (one (action_form f)) s at e refl
+    pub bad-read : {d : BadAt} → Err d ≡ action_read (one (action_form f) (drop at s) at) → one (action_form f) (drop at s) at ≡ bad_at d.0
+    bad-read e = missed action_held (one (action_form f)) s at e
 
   -- ---- the layout goes by what is left
   layout-joining : (a : Action) (m : Reading (List Action)) → layout_of (onward m (joining a)) ≡ layout_of m
@@ -133,38 +113,38 @@ module _ (f : Format) where
   layout-joining a (read l xs p) = refl
   layout-joining a (bad_at p) = refl
 
-  closed_none : (xs : List ℕ) (p : ℕ) → length xs ≡ 0 → layout_of (closed xs p) ≡ layout.Good
+  closed_none : (xs : List ℕ) (p : ℕ) → length xs ≡ 0 → layout_of (closed xs p) ≡ Ok tt
   unfolding closed
   closed_none [] p h = refl
   closed_none (x ∷ xs) p h = absurd (omega arith)
 
-  closed_some : (xs : List ℕ) (p : ℕ) → (length xs ≡ 0 → ⊥) → layout_of (closed xs p) ≡ layout.Bad p
+  closed_some : (xs : List ℕ) (p : ℕ) → (length xs ≡ 0 → ⊥) → layout_of (closed xs p) ≡ Err (record { 0 = p })
   unfolding closed
   closed_some [] p h = absurd (h refl)
   closed_some (x ∷ xs) p h = refl
 
   module _ (s : List ℕ) (at : ℕ) where
-    abbrev pub here : Layout
+    abbrev pub here : Result Unit BadAt
     here = layout_of (actions_from f (drop at s) at)
 
-    pub layout-act : {a : Action} {r : ℕ} → Act a r ≡ action_read (one (action_form f) (drop at s) at)
+    pub layout-act : {a : Action} {r : ℕ} → Ok (Some a, r) ≡ action_read (one (action_form f) (drop at s) at)
         → (here ≡ layout_of (actions_from f (drop r s) r)) × (at < r) × (r ≤ length s) × (at < length s)
     layout-act {a} {r} e =
         let h = act-read s at e in
         let w = span s at r h in
         (ap layout_of (from-item s at r h) ∙ layout-joining a (actions_from f (drop r s) r), w.0, w.1, w.2)
 
-    pub layout-end : {r : ℕ} → End r ≡ action_read (one (action_form f) (drop at s) at) → r ≡ length s → here ≡ layout.Good
+    pub layout-end : {r : ℕ} → Ok (None, r) ≡ action_read (one (action_form f) (drop at s) at) → r ≡ length s → here ≡ Ok tt
     layout-end {r} e z = ap layout_of (from_end s at r (end_read s at e)) ∙ closed_none (drop r s) r (omega (arith, length-drop r s))
 
-    pub layout-more : {r : ℕ} → End r ≡ action_read (one (action_form f) (drop at s) at) → (r ≡ length s → ⊥) → here ≡ layout.Bad r
+    pub layout-more : {r : ℕ} → Ok (None, r) ≡ action_read (one (action_form f) (drop at s) at) → (r ≡ length s → ⊥) → here ≡ Err (record { 0 = r })
     layout-more {r} e z =
         let h = end_read s at e in
         let w = span s at r h in
         ap layout_of (from_end s at r h) ∙ closed_some (drop r s) r (λ y. z (omega (arith, length-drop r s, w.1)))
 
-    pub layout-bad : {r : ℕ} → Bad r ≡ action_read (one (action_form f) (drop at s) at) → here ≡ layout.Bad r
-    layout-bad {r} e = ap layout_of (from-bad s at r (bad-read s at e))
+    pub layout-bad : {d : BadAt} → Err d ≡ action_read (one (action_form f) (drop at s) at) → here ≡ Err d
+    layout-bad {d} e = ap layout_of (from-bad s at d.0 (bad-read s at e))
 
 -- ---- the actions that are read from a place on: end, or one and the others
 pub data Coming (f : Format) (s : List ℕ) (at : ℕ) (ys : List ℕ) (q : ℕ) : List Action → Type 0 where

@@ -3,6 +3,7 @@
 use Prim.Native.Nat.{ℕ, ◌≤◌, ◌<◌}
 use native.Mathlib.Omega.{arith}
 use mathlib.Core.Bool.{Bool, true, false}
+use Rattle.std.specs.Prelude.{Ok, Err}
 use mathlib.Core.Path.{◌≡◌, refl, sym, ap, ◌∙◌}
 use mathlib.Core.List.{List}
 use borrow.Author.Tests.{le-leb, lt-leb, leb-true}
@@ -14,12 +15,10 @@ use Rattle.types.specs.declared.Action.{Action}
 use Rattle.types.specs.declared.Format.{Format}
 use Rattle.layout.specs.Read.{Reading, read, bad_at, Reader, onward}
 use Rattle.rules.specs.Script.{Opening, Script, format_of, opening_from, actions_from, script_of, script_from, read_script}
-use Rattle.script_opening.specs.declared.OpeningRead.{OpeningRead}
-use Rattle.script_opening.specs.Views.{opening_read}
-use Rattle.script_opening.proofs.Readings.{told-found}
-use Rattle.script_opening.proofs.Lists.{opening-tells}
+use Rattle.script_opening.specs.declared.Opening as held
+use Rattle.script_opening.specs.Views.{opening_held, opening_read}
+use Rattle.script_opening.proofs.Readings.{found_is}
 use Rattle.script_opening.proofs.Kept.{kept-opening, both}
-use Rattle.script_check.specs.declared.Layout.TheVariants as layout
 use Rattle.script_check.specs.Views.{layout_of}
 
 module _ (known : List Format) (s : List ℕ) where
@@ -44,25 +43,25 @@ module _ (known : List Format) (s : List ℕ) where
   unfolding script_from onward
   opening-good {o} {q} e = ap (λ (m : Reading Opening). layout_of (onward m after)) e ∙ layout-behind o (actions_from (format_in o) (drop q s) q)
 
-  pub opening-bad : {q : ℕ} → opening_from known s 0 ≡ bad_at q → layout_of (script_from known s 0) ≡ layout.Bad q
+  pub opening-bad : {q : ℕ} → opening_from known s 0 ≡ bad_at q → layout_of (script_from known s 0) ≡ Err (record { 0 = q })
   unfolding script_from onward
   opening-bad e = ap (λ (m : Reading Opening). layout_of (onward m after)) e
 
   -- As the answer that holds the opening says it.
   pub opening-layout
-      : {o : OpeningRead} {f : Format} → o ≡ opening_read (opening_from known s 0) → o.found ≡ true → f ≡ format_of known o.version
-      → layout_of (actions_from f (drop o.next s) o.next) ≡ layout_of (script_from known s 0)
-  opening-layout {o} {f} e g z =
-      let w = told-found opening-tells (opening_from known) s 0 e (kept-opening known) g in
-      let v = ap (λ (x : OpeningRead). format_of known x.version) w.told in
-      ap (λ (k : Format). layout_of (actions_from k (drop o.next s) o.next)) (z ∙ v) ∙ sym (opening-good {q = o.next} w.reads)
+      : {o : held.Opening} {q : ℕ} {f : Format} → Ok (o, q) ≡ opening_read (opening_from known s 0) → f ≡ format_of known o.version
+      → layout_of (actions_from f (drop q s) q) ≡ layout_of (script_from known s 0)
+  opening-layout {o} {q} {f} e z =
+      let w = found_is opening_held (opening_from known) s 0 (kept-opening known) e in
+      let v = ap (λ (x : held.Opening). format_of known x.version) w.told in
+      ap (λ (k : Format). layout_of (actions_from k (drop q s) q)) (z ∙ v) ∙ sym (opening-good {q = q} w.reads)
 
   -- ---- more bytes than a script has
   pub not-long : length s ≤ most_bytes → layout_of (read_script known s) ≡ layout_of (script_from known s 0)
   unfolding read_script choose
   not-long h = rw (le-leb _ _ h)
 
-  pub too_long : most_bytes < length s → layout_of (read_script known s) ≡ layout.Bad 0
+  pub too_long : most_bytes < length s → layout_of (read_script known s) ≡ Err (record { 0 = 0 })
   unfolding read_script choose
   too_long h = rw (lt-leb _ _ h)
 
@@ -97,7 +96,7 @@ module _ (known : List Format) (s : List ℕ) where
         reads_actions = ap (λ (xs : List ℕ). actions_from (format_in a.value) xs a.place) (sym la) ∙ b.first;
       }
 
-  parts-by : (b : Bool) (m : Reading Script) → leb (length s) most_bytes ≡ b → read_script known s ≡ m → layout_of m ≡ layout.Good → Parts
+  parts-by : (b : Bool) (m : Reading Script) → leb (length s) most_bytes ≡ b → read_script known s ≡ m → layout_of m ≡ Ok tt → Parts
   unfolding read_script choose
   parts-by b (bad_at p) t e g = let z : ◌≡◌ {A = ℕ} 0 1 = cc in absurd (omega arith)
   parts-by true (read x ys q) t e g = apart (leb-true _ _ t) (rw t) (rw t at e)
@@ -107,5 +106,5 @@ module _ (known : List Format) (s : List ℕ) where
       absurd (omega arith)
 
   -- A script whose layout is good, taken apart.
-  pub parts-of : layout_of (read_script known s) ≡ layout.Good → Parts
+  pub parts-of : layout_of (read_script known s) ≡ Ok tt → Parts
   parts-of g = parts-by (leb (length s) most_bytes) (read_script known s) refl refl g

@@ -6,56 +6,34 @@ ghost use Rattle.rules.specs.Script.{versions, Fine, actions_from, read_script};
 ghost use Rattle.script_check.specs.Views.{layout_of, check_says, layout_says};
 
 use script_opening::read_opening;
-use script_records::{ActionRead, format_of, read_action};
+use script_places::BadAt;
+use script_records::{format_of, read_action};
 use types::{Format, MOST_BYTES};
 
-// Whether a script can be read; if not, the place of its first bad record.
-#[derive(Clone, Copy)]
-pub enum Layout {
-    Good,
-    Bad(usize),
-}
-
-// The actions from a place on, up to end, behind which nothing may stand.
-fn check_actions(script: &[u8], from: usize, f: Format) -> Layout
+// The actions from a place on, up to the end, behind which nothing may stand. A loop: each record says where the next one begins.
+fn check_actions(script: &[u8], from: usize, f: Format) -> Result<(), BadAt>
     requires { Fine f }
     ensures { result ≡ layout_of (actions_from f (drop from script.now) from) }
 {
-    let all = script.len();
     let mut at = from;
     loop {
-        let x = read_action(script, at, f);
-        match x {
-            ActionRead::Act(_, next) => {
-                at = next;
-            }
-            ActionRead::End(next) => {
-                if next == all {
-                    return Layout::Good;
-                }
-                return Layout::Bad(next);
-            }
-            ActionRead::Bad(place) => {
-                return Layout::Bad(place);
-            }
+        let (action, next) = read_action(script, at, f)?;
+        match action {
+            Some(_) => at = next,
+            None if next == script.len() => return Ok(()),
+            None => return Err(BadAt(next)),
         }
     }
 }
 
-pub fn check_script(script: &[u8]) -> Layout
+// Whether a script can be read; if not, the place of its first bad record.
+pub fn check_script(script: &[u8]) -> Result<(), BadAt>
     ensures value { result ≡ layout_of (read_script versions script.now) }
     ensures says { layout_says result ≡ check_says (read_script versions script.now) }
 {
     if MOST_BYTES < script.len() {
-        return Layout::Bad(0);
+        return Err(BadAt(0));
     }
-    let o = read_opening(script);
-    let found = o.found;
-    let version = o.version;
-    let next = o.next;
-    if !found {
-        return Layout::Bad(next);
-    }
-    let f = format_of(version);
-    check_actions(script, next, f)
+    let (opening, next) = read_opening(script)?;
+    check_actions(script, next, format_of(opening.version))
 }

@@ -4,12 +4,13 @@ use Prim.Native.Nat.{ℕ, zero, suc}
 use native.Mathlib.Omega.{arith}
 use mathlib.Core.Path.{◌≡◌, refl, sym, ap, ◌∙◌}
 use mathlib.Core.List.{List, [], ◌∷◌}
-use lib.ListN.{drop}
+use lib.ListN.{length, drop}
 use Rattle.layout.specs.Read.{Reading, read, bad_at, Reader, one, onward, joining, repeat}
 use Rattle.types.specs.declared.Format.{Format}
 use Rattle.rules.specs.Script.{Header, header_form, rule_count_form, rule_form, envelope_count_form, envelope_form, format_of, table_from, envelopes_from, lists_from}
 use Rattle.rules.specs.Script.{opening_from}
-pub use Rattle.script_opening.proofs.Readings.{Kept, kept-one}
+use Rattle.script_opening.specs.Views.{Kept}
+pub use Rattle.script_opening.proofs.Readings.{kept-one}
 
 -- ---- first one reading, then another
 pub record Both {A B : Type 0} (m : Reading A) (k : A → Reader B) (b : B) (ys : List ℕ) (q : ℕ) : Type 0 where
@@ -28,6 +29,19 @@ both_by m (bad_at p) k {b} {ys} {q} h e =
 
 pub both : {A B : Type 0} (m : Reading A) (k : A → Reader B) {b : B} {ys : List ℕ} {q : ℕ} → onward m k ≡ read b ys q → Both m k b ys q
 both m k e = both_by m m k refl e
+
+-- as many are read as were asked for
+pub repeat-length
+    : {A : Type 0} (f : Reader A) (n : ℕ) (xs : List ℕ) (p : ℕ) {l : List A} {ys : List ℕ} {q : ℕ} → repeat n f xs p ≡ read l ys q → length l ≡ n
+unfolding repeat joining
+repeat-length f zero xs p {l} {ys} {q} e =
+    let x : [] ≡ l = cc in ap length (sym x)
+repeat-length f (suc n) xs p {l} {ys} {q} e =
+    let r = both (f xs p) (λ a zs k. onward (repeat n f zs k) (joining a)) e in
+    let w = both (repeat n f r.left r.place) (joining r.value) r.second in
+    let u : read (r.value ∷ w.value) w.left w.place ≡ read l ys q = w.second in
+    let x : r.value ∷ w.value ≡ l = cc in
+    sym (ap length x) ∙ ap suc (repeat-length f n r.left r.place w.first)
 
 -- ---- what is left is what stands from the place on
 kept_read : {A : Type 0} (a : A) → Kept (read a)

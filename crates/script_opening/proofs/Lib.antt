@@ -1,6 +1,6 @@
 pub mod Readings
 pub mod Loops
 pub mod Kept
-pub mod Lists
+pub mod Changed
 pub mod Says
-pub mod Opening
+pub mod Lists

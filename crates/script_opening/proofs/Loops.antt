@@ -4,9 +4,8 @@ use Prim.Native.Nat.{ℕ, suc, ◌+◌, ◌-◌, ◌≤◌, ◌<◌}
 use native.Mathlib.Omega.{arith}
 use mathlib.Core.Path.{◌≡◌, sym, ap, ◌∙◌}
 use mathlib.Core.List.{List, []}
-use lib.ListN.{length, take, drop, set}
+use lib.ListN.{take, drop, set}
 use Rattle.lists.specs.Lists.{pad}
-use Rattle.lists.proofs.Places.{laid-length}
 use Rattle.layout.specs.Read.{read, bad_at, Reader, repeat}
 use Rattle.script_rules.proofs.Laws.{more-used, more-laid}
 use Rattle.script_opening.proofs.Readings.{gathered, gathered_none, gathered-more, gathered-bad, gathered-all}
@@ -54,7 +53,3 @@ module _ {A : Type 0} (n : ℕ) (z : A) (f : Reader A) (s : List ℕ) (at count 
         r.ahead
         ∙ ap (λ (j : ℕ). gathered (take i es) (repeat j f (drop next s) next)) k
         ∙ gathered-all f (take i es) (drop next s) next
-
-    pub reads-count : count ≤ n → count ≤ i → length (take i es) ≡ count
-    reads-count room l =
-        let e : i ≡ count = let h = r.some in omega arith in laid-length n z es i (omega arith) r.laid ∙ e

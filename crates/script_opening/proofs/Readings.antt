@@ -3,13 +3,14 @@
 -- Assumes nothing.
 use Prim.Native.Nat.{ℕ, suc, ◌+◌, ◌≤◌}
 use native.Mathlib.Omega.{arith}
-use mathlib.Core.Bool.{Bool, true, false, true≢false}
+use mathlib.Core.Bool.{Bool, true, false}
 use mathlib.Core.Path.{◌≡◌, refl, sym, ap, subst, ◌∙◌}
 use mathlib.Core.List.{List, [], ◌∷◌, ◌++◌, append_assoc, append-nil}
 use lib.Dec.{leb, eqb}
 use lib.ListN.{drop}
 use lib.Seq.{drop-drop}
 use borrow.Author.Tests.{leb-true}
+use Rattle.std.specs.Prelude.{Result, Ok, Err}
 use Rattle.layout.specs.Bits.{field_at}
 use Rattle.layout.specs.Form.{Form, filled, refuse, field, reached, Got, got, bad, follow, only, record_of}
 use Rattle.layout.specs.Read.{Reading, read, bad_at, Reader, placed, one, onward, joining, repeat}
@@ -17,23 +18,12 @@ use Rattle.layout.proofs.Laws.{found}
 use Rattle.lists.specs.Lists.{any, every}
 use Rattle.lists.proofs.Members.{and_both}
 use Rattle.types.specs.Capacities.{most_actors, most_rules}
-use Rattle.types.specs.declared.Envelope.{Envelope}
 use Rattle.types.specs.declared.Format.{Format}
-use Rattle.types.specs.declared.Rule.{Rule}
-use Rattle.rules.specs.Script.{header_ok, header_form, rule_count_form, rule_form, envelope_count_form}
+use Rattle.rules.specs.Script.{header_ok, header_form, rule_count_form, envelope_count_form}
 use Rattle.rules.specs.Script as script
-use Rattle.script_records.specs.declared.Header.{Header}
-use Rattle.script_records.specs.declared.HeaderRead.{HeaderRead}
-use Rattle.script_records.specs.declared.HeaderRead.TheVariants as header
-use Rattle.script_records.specs.declared.CountRead.{CountRead}
-use Rattle.script_records.specs.declared.CountRead.TheVariants as count
-use Rattle.script_rules.specs.declared.RuleRead.{RuleRead}
-use Rattle.script_opening.specs.declared.TableRead.{TableRead}
-use Rattle.script_records.specs.declared.EnvelopeRead.{EnvelopeRead}
-use Rattle.script_records.specs.declared.EnvelopeRead.TheVariants as envelope
-use Rattle.script_rules.specs.Views.{rule_read}
-use Rattle.script_records.specs.Views.{header_read, count_read, envelope_read}
-use Rattle.script_opening.specs.Views.{table_read}
+use Rattle.script_places.specs.declared.BadAt.{BadAt}
+use Rattle.script_places.specs.Views.{same, result_of}
+use Rattle.script_opening.specs.Views.{Kept}
 
 -- ---- one record: what is left is what stands from the next place on
 module _ {A : Type 0} (s : List ℕ) (at : ℕ) where
@@ -61,132 +51,62 @@ module _ {A : Type 0} (s : List ℕ) (at : ℕ) where
   unfolding one
   bad-is f e = bad-placed (drop at s) (record_of f (drop at s)) e
 
--- ---- what is left is what stands from the place on
-abbrev pub Kept : {A : Type 0} → Reader A → Type 0
-Kept {A} f = (s : List ℕ) (at : ℕ) (a : A) (ys : List ℕ) (q : ℕ) → f (drop at s) at ≡ read a ys q → ys ≡ drop q s
-
 pub kept-one : {A : Type 0} (f : Form A) → Kept (one f)
 kept-one f s at a ys q e = left_is s at f e
 
--- ---- what an answer says of the reading: `out` is the answer to one; an answer says whether it is good, and its place
-pub record Telling {A T : Type 0} (out : Reading A → T) (good : T → Bool) (place : T → ℕ) : Type 0 where
-  pub yes : (a : A) (xs : List ℕ) (p : ℕ) → (good (out (read a xs p)) ≡ true) × (place (out (read a xs p)) ≡ p)
-  pub no : (p : ℕ) → (good (out (bad_at p)) ≡ false) × (place (out (bad_at p)) ≡ p)
-
--- The value that was read to give the answer t.
-pub record Told {A T : Type 0} (out : Reading A → T) (place : T → ℕ) (f : Reader A) (s : List ℕ) (at : ℕ) (t : T) : Type 0 where
+-- ---- what an answer says of the reading: k is how it holds a value
+-- The value that was read to give the answer b, q.
+pub record Found {A B : Type 0} (k : A → B) (f : Reader A) (s : List ℕ) (at : ℕ) (b : B) (q : ℕ) : Type 0 where
   pub value : A
-  pub reads : f (drop at s) at ≡ read value (drop (place t) s) (place t)
-  pub told : t ≡ out (read value (drop (place t) s) (place t))
+  pub reads : f (drop at s) at ≡ read value (drop q s) q
+  pub told : b ≡ k value
 
-module _
-    {A T : Type 0} {out : Reading A → T} {good : T → Bool} {place : T → ℕ} (k : Telling out good place) (f : Reader A) (s : List ℕ)
-    (at : ℕ) {t : T} where
-  told-by : (m : Reading A) → f (drop at s) at ≡ m → t ≡ out m → Kept f → good t ≡ true → Told out place f s at t
-  told-by (read a ys p) h e kept g =
-      let q : p ≡ place t = sym (ap place e ∙ (k.yes a ys p).1) in
-      let w : read a ys p ≡ read a (drop (place t) s) (place t) =
-      ap (λ (zs : List ℕ). read a zs p) (kept s at a ys p h) ∙ ap (λ (j : ℕ). read a (drop j s) j) q in
-      record { value = a; reads = h ∙ w; told = e ∙ ap out w }
-  told-by (bad_at p) h e kept g =
-      let z : false ≡ true = sym (ap good e ∙ (k.no p).0) ∙ g in absurd (true≢false (sym z))
+abbrev held : {B : Type 0} → B → Result (B × ℕ) BadAt → B
+held d (Ok x) = x.0
+held d (Err e) = d
 
-  told-not : (m : Reading A) → t ≡ out m → good t ≡ false → m ≡ bad_at (place t)
-  told-not (read a ys p) e g =
-      let z : true ≡ false = sym (ap good e ∙ (k.yes a ys p).0) ∙ g in absurd (true≢false z)
-  told-not (bad_at p) e g = ap bad_at (sym (ap place e ∙ (k.no p).1))
+abbrev place : {B : Type 0} → Result (B × ℕ) BadAt → ℕ
+place (Ok x) = x.1
+place (Err e) = e.0
 
-  module _ (e : t ≡ out (f (drop at s) at)) where
-    pub told-found : Kept f → good t ≡ true → Told out place f s at t
-    told-found kept g = told-by (f (drop at s) at) refl e kept g
+module _ {A B : Type 0} (k : A → B) (f : Reader A) (s : List ℕ) (at : ℕ) where
+  found-by : (m : Reading A) → f (drop at s) at ≡ m → Kept f → {b : B} {q : ℕ} → Ok (b, q) ≡ result_of k m → Found k f s at b q
+  found-by (read a ys p) h kept {b} {q} e =
+      let y : p ≡ q = sym (ap place e) in
+      record {
+        value = a;
+        reads = h ∙ ap (λ (zs : List ℕ). read a zs p) (kept s at a ys p h) ∙ ap (λ (j : ℕ). read a (drop j s) j) y;
+        told = ap (held b) e;
+      }
+  found-by (bad_at p) h kept {b} {q} e =
+      let z : ◌≡◌ {A = ℕ} 0 1 = cc in absurd (omega arith)
 
-    pub told-bad : good t ≡ false → f (drop at s) at ≡ bad_at (place t)
-    told-bad g = told-not (f (drop at s) at) e g
+  missed-by : (m : Reading A) {e : BadAt} → Err e ≡ result_of k m → m ≡ bad_at e.0
+  missed-by (read a ys p) {e} h = let z : ◌≡◌ {A = ℕ} 0 1 = cc in absurd (omega arith)
+  missed-by (bad_at p) h = ap bad_at (sym (ap place h))
 
--- ---- each kind of answer
-abbrev header_good : HeaderRead → Bool
-header_good (header.Found x p) = true
-header_good (header.Bad p) = false
+  pub found_is : Kept f → {b : B} {q : ℕ} → Ok (b, q) ≡ result_of k (f (drop at s) at) → Found k f s at b q
+  found_is kept e = found-by (f (drop at s) at) refl kept e
 
-abbrev header_place : HeaderRead → ℕ
-header_place (header.Found x p) = p
-header_place (header.Bad p) = p
+  pub missed : {e : BadAt} → Err e ≡ result_of k (f (drop at s) at) → f (drop at s) at ≡ bad_at e.0
+  missed h = missed-by (f (drop at s) at) h
 
-header-tells : Telling header_read header_good header_place
-header-tells = record { yes = λ a xs p. (refl, refl); no = λ p. (refl, refl) }
+-- a value that is held as it is
+pub found_same
+    : {A : Type 0} (f : Reader A) (s : List ℕ) (at : ℕ) → Kept f → {a : A} {q : ℕ} → Ok (a, q) ≡ result_of same (f (drop at s) at)
+    → f (drop at s) at ≡ read a (drop q s) q
+found_same {A} f s at kept {a} {q} e =
+    let w = found_is same f s at kept e in w.reads ∙ ap (λ (x : A). read x (drop q s) q) (sym w.told)
 
-abbrev count_good : CountRead → Bool
-count_good (count.Found x p) = true
-count_good (count.Bad p) = false
+-- ---- first one reading, then another
+module _ {A B : Type 0} (k : A → Reader B) {m : Reading A} where
+  pub then_read : {a : A} {xs : List ℕ} {p : ℕ} → m ≡ read a xs p → onward m k ≡ k a xs p
+  unfolding onward
+  then_read h = ap (λ (n : Reading A). onward n k) h
 
-abbrev count_place : CountRead → ℕ
-count_place (count.Found x p) = p
-count_place (count.Bad p) = p
-
-count-tells : Telling count_read count_good count_place
-count-tells = record { yes = λ a xs p. (refl, refl); no = λ p. (refl, refl) }
-
-abbrev envelope_good : EnvelopeRead → Bool
-envelope_good (envelope.Found x p) = true
-envelope_good (envelope.Bad p) = false
-
-abbrev envelope_place : EnvelopeRead → ℕ
-envelope_place (envelope.Found x p) = p
-envelope_place (envelope.Bad p) = p
-
-envelope-tells : Telling envelope_read envelope_good envelope_place
-envelope-tells = record { yes = λ a xs p. (refl, refl); no = λ p. (refl, refl) }
-
-rule-tells : Telling rule_read (λ (r : RuleRead). r.found) (λ (r : RuleRead). r.next)
-rule-tells = record { yes = λ a xs p. (refl, refl); no = λ p. (refl, refl) }
-
-pub table-tells : Telling table_read (λ (t : TableRead). t.found) (λ (t : TableRead). t.next)
-table-tells = record { yes = λ a xs p. (refl, refl); no = λ p. (refl, refl) }
-
-module _ (s : List ℕ) (at : ℕ) where
-  pub header-found
-      : (f : Form script.Header) {x : Header} {q : ℕ} → header.Found x q ≡ header_read (one f (drop at s) at)
-      → one f (drop at s) at ≡ read (record { version = x.version; kind = x.kind; actors = x.actors }) (drop q s) q
-  header-found f {x} {q} e =
-      let r = told-found header-tells (one f) s at e (kept-one f) refl in
-      let w : header.Found x q ≡ header.Found (record { version = r.value.version; kind = r.value.kind; actors = r.value.actors }) q = r.told in
-      let y : record { version = r.value.version; kind = r.value.kind; actors = r.value.actors } ≡ x = cc in
-      r.reads ∙ ap (λ (h : Header). read (record { version = h.version; kind = h.kind; actors = h.actors }) (drop q s) q) y
-
-  pub header-bad : (f : Form script.Header) {q : ℕ} → header.Bad q ≡ header_read (one f (drop at s) at) → one f (drop at s) at ≡ bad_at q
-  header-bad f e = told-bad header-tells (one f) s at e refl
-
-  pub count-found : (f : Form ℕ) {c q : ℕ} → count.Found c q ≡ count_read (one f (drop at s) at) → one f (drop at s) at ≡ read c (drop q s) q
-  count-found f {c} {q} e =
-      let r = told-found count-tells (one f) s at e (kept-one f) refl in
-      let w : count.Found c q ≡ count.Found r.value q = r.told in
-      let y : r.value ≡ c = cc in
-      r.reads ∙ ap (λ (x : ℕ). read x (drop q s) q) y
-
-  pub count-bad : (f : Form ℕ) {q : ℕ} → count.Bad q ≡ count_read (one f (drop at s) at) → one f (drop at s) at ≡ bad_at q
-  count-bad f e = told-bad count-tells (one f) s at e refl
-
-  pub envelope-found
-      : (f : Form Envelope) {x : Envelope} {q : ℕ} → envelope.Found x q ≡ envelope_read (one f (drop at s) at) → one f (drop at s) at
-      ≡ read x (drop q s) q
-  envelope-found f {x} {q} e =
-      let r = told-found envelope-tells (one f) s at e (kept-one f) refl in
-      let w : envelope.Found x q ≡ envelope.Found r.value q = r.told in
-      let y : r.value ≡ x = cc in
-      r.reads ∙ ap (λ (a : Envelope). read a (drop q s) q) y
-
-  pub envelope-bad : (f : Form Envelope) {q : ℕ} → envelope.Bad q ≡ envelope_read (one f (drop at s) at) → one f (drop at s) at ≡ bad_at q
-  envelope-bad f e = told-bad envelope-tells (one f) s at e refl
-
-  module _ (f : Format) {r : RuleRead} (e : r ≡ rule_read (one (rule_form f) (drop at s) at)) where
-    pub rule_found : r.found ≡ true → one (rule_form f) (drop at s) at ≡ read r.rule (drop r.next s) r.next
-    rule_found g =
-        let w = told-found rule-tells (one (rule_form f)) s at e (kept-one (rule_form f)) g in
-        w.reads ∙ ap (λ (x : Rule). read x (drop r.next s) r.next) (sym (ap (λ (x : RuleRead). x.rule) w.told))
-
-    pub rule-bad : r.found ≡ false → one (rule_form f) (drop at s) at ≡ bad_at at
-    rule-bad g =
-        let w = told-bad rule-tells (one (rule_form f)) s at e g in w ∙ ap bad_at (bad-is s at (rule_form f) w)
+  pub then_bad : {p : ℕ} → m ≡ bad_at p → onward m k ≡ bad_at p
+  unfolding onward
+  then_bad h = ap (λ (n : Reading A). onward n k) h
 
 -- ---- so many, one after another
 module _ {A : Type 0} where

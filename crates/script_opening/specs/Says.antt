@@ -1,34 +1,40 @@
--- Document 01's number and values of each answer: 0 with what was read and the place after it, or 11 with the place of the bad record.
+-- The number of each answer and its values: 0 with what was read and the place after it, or 11 with the place of the bad record.
 -- Assumes nothing.
-use Rattle.std.specs.Prelude.{List, [], ◌∷◌, map, take}
-use Rattle.lists.specs.Lists.{choose}
+use Rattle.std.specs.Prelude.{ℕ, List, map, take, Result}
 use Rattle.types.specs.declared.Envelope.{Envelope}
 use Rattle.types.specs.declared.Rule.{Rule}
-use Rattle.rules.specs.Script.{Opening}
+use Rattle.rules.specs.Script as script
+use Rattle.link_inner.specs.declared.Table.{Table}
 use Rattle.link_inner.specs.Views.{rules_of}
-use Rattle.script_places.specs.Says.{Said, said}
-use Rattle.script_opening.specs.declared.TableRead.{TableRead}
-use Rattle.script_opening.specs.declared.TablesRead.{TablesRead}
-use Rattle.script_opening.specs.declared.EnvelopesRead.{EnvelopesRead}
-use Rattle.script_opening.specs.declared.OpeningRead.{OpeningRead}
+use Rattle.script_places.specs.declared.BadAt.{BadAt}
+use Rattle.script_places.specs.Says.{Said, result_says}
+use Rattle.script_opening.specs.declared.Tables.{Tables}
+use Rattle.script_opening.specs.declared.Envelopes.{Envelopes}
+use Rattle.script_opening.specs.declared.Opening.{Opening}
 
 -- What a list holds is what is in use.
-abbrev pub table_says : TableRead → Said (List Rule)
-table_says t = choose t.found (said 0 (take t.used t.rules ∷ []) (t.next ∷ [])) (said 11 [] (t.next ∷ []))
+abbrev pub table_says : Result (Table × ℕ) BadAt → Said (List Rule)
+table_says = result_says rules_of
 
-abbrev pub tables_says : TablesRead → Said (List (List Rule))
-tables_says t = choose t.found (said 0 (map rules_of (take t.used t.tables) ∷ []) (t.next ∷ [])) (said 11 [] (t.next ∷ []))
+abbrev pub tables_in : Tables → List (List Rule)
+tables_in t = map rules_of (take t.used t.list)
 
-abbrev pub envelopes_says : EnvelopesRead → Said (List Envelope)
-envelopes_says t = choose t.found (said 0 (take t.used t.list ∷ []) (t.next ∷ [])) (said 11 [] (t.next ∷ []))
+abbrev pub tables_says : Result (Tables × ℕ) BadAt → Said (List (List Rule))
+tables_says = result_says tables_in
 
-abbrev pub opening_in : OpeningRead → Opening
-opening_in t = record {
-  version = t.version;
-  kind = t.kind;
-  tables = map rules_of (take t.count t.tables);
-  envelopes = take t.used t.list;
+abbrev pub envelopes_in : Envelopes → List Envelope
+envelopes_in e = take e.used e.list
+
+abbrev pub envelopes_says : Result (Envelopes × ℕ) BadAt → Said (List Envelope)
+envelopes_says = result_says envelopes_in
+
+abbrev pub opening_in : Opening → script.Opening
+opening_in o = record {
+  version = o.version;
+  kind = o.kind;
+  tables = tables_in o.tables;
+  envelopes = envelopes_in o.envelopes;
 }
 
-abbrev pub opening_says : OpeningRead → Said Opening
-opening_says t = choose t.found (said 0 (opening_in t ∷ []) (t.next ∷ [])) (said 11 [] (t.next ∷ []))
+abbrev pub opening_says : Result (Opening × ℕ) BadAt → Said script.Opening
+opening_says = result_says opening_in

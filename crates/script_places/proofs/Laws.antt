@@ -1,4 +1,4 @@
--- Why a record at a place is read right: where it ends, what its answer says, and how the numbers in its first fields lead its form on.
+-- Why a record at a place is read right: where it ends, and how the numbers in its first fields lead its form on.
 -- Assumes nothing.
 use Prim.Native.Nat.{ℕ, ◌+◌, ◌-◌, ◌*◌, ◌≤◌, ◌<◌}
 use native.Mathlib.Omega.{arith}
@@ -6,6 +6,7 @@ use mathlib.Core.Path.{◌≡◌, refl, sym, ap, ◌∙◌}
 use mathlib.Core.List.{List, [], ◌∷◌}
 use mathlib.Core.Bool.{Bool, true, false}
 use borrow.Author.Tests.{le-leb, lt-leb}
+use Rattle.std.specs.Prelude.{Option, Some, None, Result, Ok, Err}
 use lib.ListN.{length, take, drop, length-drop, drop_of_length-le}
 use lib.Seq.{take_all, drop-length}
 use lib.Dec.{eqb}
@@ -14,59 +15,36 @@ use Rattle.layout.specs.Bits.{field_at}
 use Rattle.layout.specs.Form.{Form, filled, refuse, field, Reached, reached, stuck, got, bad, follow, then, bytes_for, whole_of, padded, record_of}
 use Rattle.layout.specs.Read.{Reading, read, bad_at, placed, one}
 use Rattle.layout.proofs.Laws.{then-reached, stuck-first}
-use Rattle.script_places.specs.declared.Ending.{Ending}
-use Rattle.script_places.specs.declared.Ending.TheVariants as ending
-use Rattle.script_places.specs.Views.{ending_of}
-use Rattle.script_places.proofs.Says.{Telling, Tells, tells}
+use Rattle.script_places.specs.declared.BadAt.{BadAt}
+use Rattle.script_places.specs.Views.{ending_of, same, result_of, part_of}
 
--- ---- a record at a place: its form reached a value after n bits, and its end is as `ending_of` says
-module _ {A : Type 0} (f : Form A) (xs : List ℕ) (p : ℕ) where
-  whole-at : (b : Bool) (a : A) (n : ℕ) {q : ℕ} → ending.At q ≡ ending_of p b n
-      → placed (choose b (got a (bytes_for n)) bad) xs p ≡ read a (drop (bytes_for n) xs) q
+-- ---- a record at a place: what is answered is what its form reached, and how the record ends
+abbrev pub valued : {B : Type 0} → ℕ → B → Option ℕ → Result (B × ℕ) BadAt
+valued at b (Some p) = Ok (b, p)
+valued at b None = Err (record { 0 = at })
+
+module _ {A B : Type 0} (k : A → B) (f : Form A) (s : List ℕ) (at : ℕ) where
+  whole-at : (xs : List ℕ) (b : Bool) (a : A) (n : ℕ) → result_of k (placed (choose b (got a (bytes_for n)) bad) xs at) ≡ valued at (k a) (ending_of at b n)
   unfolding placed choose
-  whole-at true a n {q} e = let z : q ≡ p + bytes_for n = cc in ap (read a (drop (bytes_for n) xs)) (sym z)
-  whole-at false a n {q} e = let z : ◌≡◌ {A = ℕ} 0 1 = cc in absurd (omega arith)
+  whole-at xs true a n = refl
+  whole-at xs false a n = refl
 
-  whole-not : (b : Bool) (a : A) (n : ℕ) → ending.Bad ≡ ending_of p b n → placed (choose b (got a (bytes_for n)) bad) xs p ≡ bad_at p
-  unfolding placed choose
-  whole-not true a n e = let z : ◌≡◌ {A = ℕ} 0 1 = cc in absurd (omega arith)
-  whole-not false a n e = refl
+  -- xs is what stands from the place on
+  module _ {xs : List ℕ} (l : xs ≡ drop at s) where
+    there : {g : Reached A} → follow xs f 0 ≡ g → one f (drop at s) at ≡ placed (padded (drop at s) g) (drop at s) at
+    unfolding one record_of
+    there h = ap (λ (g : Reached A). placed (padded (drop at s) g) (drop at s) at) (ap (λ (ys : List ℕ). follow ys f 0) (sym l) ∙ h)
 
-  module _ {a : A} {n : ℕ} (h : follow xs f 0 ≡ reached a n) where
-    one-by : one f xs p ≡ placed (choose (whole_of xs n) (got a (bytes_for n)) bad) xs p
-    unfolding one record_of padded
-    one-by = ap (λ (g : Reached A). placed (padded xs g) xs p) h
+    pub record_at
+        : {a : A} {n : ℕ} {z : Option ℕ} → follow xs f 0 ≡ reached a n → z ≡ ending_of at (whole_of (drop at s) n) n
+        → valued at (k a) z ≡ result_of k (one f (drop at s) at)
+    unfolding padded
+    record_at {a} {n} h e =
+        ap (valued at (k a)) e ∙ sym (ap (result_of k) (there h) ∙ whole-at (drop at s) (whole_of (drop at s) n) a n)
 
-    pub one_at : {q : ℕ} → ending.At q ≡ ending_of p (whole_of xs n) n → one f xs p ≡ read a (drop (bytes_for n) xs) q
-    one_at e = one-by ∙ whole-at (whole_of xs n) a n e
-
-    pub one-not : ending.Bad ≡ ending_of p (whole_of xs n) n → one f xs p ≡ bad_at p
-    one-not e = one-by ∙ whole-not (whole_of xs n) a n e
-
-  pub one-stuck : follow xs f 0 ≡ stuck → one f xs p ≡ bad_at p
-  unfolding one record_of padded placed
-  one-stuck h = ap (λ (g : Reached A). placed (padded xs g) xs p) h
-
--- ---- the answer at a place: xs is what stands from the place on
-module _ {A R : Type 0} (t : Telling A R) (f : Form A) (s : List ℕ) (at : ℕ) {xs : List ℕ} (l : xs ≡ drop at s) where
-  there : {g : Reached A} → follow xs f 0 ≡ g → follow (drop at s) f 0 ≡ g
-  there h = ap (λ (ys : List ℕ). follow ys f 0) (sym l) ∙ h
-
-  tells-by : {m : Reading A} {r : R} → one f (drop at s) at ≡ m → r ≡ t.image m → Tells t (one f (drop at s) at) r
-  tells-by h e = tells t (one f (drop at s) at) (e ∙ sym (ap t.image h))
-
-  pub tells_at
-      : {a : A} {n q : ℕ} {z : Ending} {r : R} → follow xs f 0 ≡ reached a n → z ≡ ending_of at (whole_of (drop at s) n) n → z ≡ ending.At q
-      → r ≡ t.image (read a (drop (bytes_for n) (drop at s)) q) → Tells t (one f (drop at s) at) r
-  tells_at h w e r = tells-by (one_at f (drop at s) at (there h) (sym e ∙ w)) r
-
-  pub tells-not
-      : {a : A} {n : ℕ} {z : Ending} {r : R} → follow xs f 0 ≡ reached a n → z ≡ ending_of at (whole_of (drop at s) n) n → z ≡ ending.Bad
-      → r ≡ t.image (bad_at at) → Tells t (one f (drop at s) at) r
-  tells-not h w e r = tells-by (one-not f (drop at s) at (there h) (sym e ∙ w)) r
-
-  pub tells-stuck : {r : R} → follow xs f 0 ≡ stuck → r ≡ t.image (bad_at at) → Tells t (one f (drop at s) at) r
-  tells-stuck h r = tells-by (one-stuck f (drop at s) at (there h)) r
+    pub no-record : follow xs f 0 ≡ stuck → Err (record { 0 = at }) ≡ result_of k (one f (drop at s) at)
+    unfolding padded placed
+    no-record h = sym (ap (result_of k) (there h))
 
 -- a record is cut, or is whole if what pads it is 0
 module _ (xs : List ℕ) (n : ℕ) where
@@ -116,11 +94,11 @@ module _ (xs : List ℕ) where
   fed-on refuse at (v ∷ vs) h = absurd h
   fed-on (field w k) at (v ∷ vs) h = rw (← h.0) (fed-on (k v) (at + w) vs h.1)
 
--- ---- parts of a slice
--- a part up to the end
-pub tail : (n : ℕ) (xs : List ℕ) → take (length xs - n) (drop n xs) ≡ drop n xs
-tail n xs = take_all (length xs - n) (drop n xs) (omega (arith, length-drop n xs))
+-- ---- what the answer of a part says of its form
+abbrev pub reach_of : {A : Type 0} → Option (A × ℕ) → Reached A
+reach_of (Some (a, n)) = reached a n
+reach_of None = stuck
 
--- a part past the end
-pub tail-past : (n : ℕ) (xs : List ℕ) → length xs ≤ n → take (length xs - length xs) (drop (length xs) xs) ≡ drop n xs
-tail-past n xs h = tail (length xs) xs ∙ drop-length xs ∙ sym (drop_of_length-le xs h)
+pub part-back : {A : Type 0} {g : Reached A} {x : Option (A × ℕ)} → x ≡ part_of same g → g ≡ reach_of x
+part-back {g = reached a n} e = sym (ap reach_of e)
+part-back {g = stuck} e = sym (ap reach_of e)

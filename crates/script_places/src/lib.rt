@@ -8,48 +8,40 @@ ghost use Rattle.script_places.specs.Views.{ending_of};
 
 use script_bits::{cut, whole};
 
-// Where a record ends, or that it is cut or badly padded.
-#[derive(Clone, Copy)]
-pub enum Ending {
-    At(usize),
-    Bad,
-}
+// A script is bad: its first bad record begins at this place.
+#[derive(Clone, Copy, Debug, PartialEq, Eq)]
+pub struct BadAt(pub usize);
 
 // The same slice from the place `at` on. Past its end nothing is left.
 pub fn from(s: &[u8], at: usize) -> &[u8]
     ensures { result.now ≡ drop at s.now }
 {
-    if at <= s.len() {
-        &s[at..]
-    } else {
-        let end = s.len();
-        &s[end..]
-    }
+    &s[at.min(s.len())..]
 }
 
-// The end of a record of `used` bits that begins at the place `at`.
-pub fn end_of(script: &[u8], at: usize, used: usize) -> Ending
+// The end of a record of `used` bits that begins at the place `at`, if it is not cut or badly padded. The place of a bad one is known to
+// the caller: an error that holds it takes longer where actions are read.
+pub fn end_of(script: &[u8], at: usize, used: usize) -> Option<usize>
     requires { used < 4096 }
     ensures { result ≡ ending_of at (whole_of (drop at script.now) used) used }
 {
     if whole(from(script, at), used) {
-        return Ending::At(at + (used + 7) / 8);
+        return Some(at + used.div_ceil(8));
     }
-    Ending::Bad
+    None
 }
 
 // The same of a record whose bits all lie in the two words that stand at the place.
-pub fn end_in(script: &[u8], at: usize, w: u64, v: u64, used: usize) -> Ending
+pub fn end_in(script: &[u8], at: usize, w: u64, v: u64, used: usize) -> Option<usize>
     requires { (used ≤ 128) × Front (drop at script.now) w v }
     ensures { result ≡ ending_of at (whole_of (drop at script.now) used) used }
 {
-    let s = from(script, at);
-    let size = (used + 7) / 8;
-    if s.len() < size {
-        return Ending::Bad;
+    let size = used.div_ceil(8);
+    if from(script, at).len() < size {
+        return None;
     }
     if cut(w, v, used, 8 * size - used) == 0 {
-        return Ending::At(at + size);
+        return Some(at + size);
     }
-    Ending::Bad
+    None
 }

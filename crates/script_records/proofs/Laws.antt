@@ -4,12 +4,12 @@ use Prim.Native.Nat.{ℕ, ◌+◌, ◌≤◌, ◌<◌}
 use native.Mathlib.Omega.{arith}
 use mathlib.Core.Path.{◌≡◌, refl, sym, ap, ◌∙◌}
 use mathlib.Core.List.{List, [], ◌∷◌}
-use mathlib.Core.Bool.{Bool, true, false}
+use mathlib.Core.Bool.{true, false}
+use Rattle.std.specs.Prelude.{Some, None}
 use native.Mathlib.Decide.{ℕ_discrete}
-use borrow.Author.Tests.{le-leb, lt-leb, lt-ltb, le-ltb, eq-eqb, ne_eqb}
+use borrow.Author.Tests.{le-leb, lt-leb, lt-ltb, le-ltb}
 use lib.ListN.{length, get_or, drop, get_or-eq_default}
-use lib.Dec.{leb, ltb, eqb, lit≤}
-use Rattle.lists.specs.Lists.{choose}
+use lib.Dec.{leb, ltb, lit≤}
 use Rattle.layout.specs.Bits.{field_at}
 use Rattle.layout.specs.Form.{Form, filled, refuse, field, Reached, reached, stuck, Got, got, bad, follow, only, record_of}
 use Rattle.layout.specs.Read.{placed, one}
@@ -22,14 +22,10 @@ use Rattle.types.specs.declared.Message.{Message}
 use Rattle.types.specs.declared.Message.TheVariants as message
 use Rattle.rules.specs.Script.{header_ok, header_form, message_kinds, message_form, envelope_form, Item, end}
 use Rattle.rules.specs.Script.{item, action_kinds, action_form, take_action, size_of}
-use Rattle.script_places.proofs.Laws.{then_at, then-stuck, moved, fed-on}
-use Rattle.script_records.specs.declared.MessagePart.{MessagePart}
-use Rattle.script_records.specs.declared.MessagePart.TheVariants as messages
-use Rattle.script_records.specs.declared.EnvelopePart.{EnvelopePart}
-use Rattle.script_records.specs.declared.EnvelopePart.TheVariants as envelopes
+use Rattle.script_places.proofs.Laws.{then_at, then-stuck, moved, fed-on, part-back}
+use Rattle.script_records.specs.Views.{action_read, action_size, envelope_part, action_part}
 use Rattle.script_records.specs.declared.ActionPart.{ActionPart}
 use Rattle.script_records.specs.declared.ActionPart.TheVariants as actions
-use Rattle.script_records.specs.Views.{action_read, action_size, message_part, envelope_part, envelope_end, with_envelope, action_part, action_end}
 
 -- the two words that stand at a place
 pub stand
@@ -143,39 +139,33 @@ module _ (xs : List ℕ) where
       unfolding action_kinds
       kind-past g h = kind_at g ∙ ap (λ (i : Form Item). follow xs i 3) (get_or-eq_default (action_kinds f) refuse h)
 
-    -- a Deliver or a Drop is its envelope
-    delivers : (g : Reached Envelope) → action_part (on_reached g (λ e n. reached (item (action.Deliver e)) n)) ≡ with_envelope true (envelope_part g)
-    unfolding choose
-    delivers (reached e n) = refl
-    delivers stuck = refl
-
-    drops : (g : Reached Envelope) → action_part (on_reached g (λ e n. reached (item (action.Drop e)) n)) ≡ with_envelope false (envelope_part g)
-    unfolding choose
-    drops (reached e n) = refl
-    drops stuck = refl
-
     module _ {k : ℕ} (p : k ≡ field_at xs 0 3) (within : k < f.kinds) where
-      deliver-kind : k ≡ 1 → action_part (follow xs (action_form f) 0) ≡ with_envelope true (envelope_part (follow xs (envelope_form f) 3))
+      -- a Deliver or a Drop is its envelope
+      deliver-kind : k ≡ 1 → follow xs (action_form f) 0 ≡ on_reached (follow xs (envelope_form f) 3) (λ e n. reached (item (action.Deliver e)) n)
       unfolding action_kinds
       deliver-kind e =
-          ap action_part (kind_at p within ∙ ap (λ (j : ℕ). follow xs (get_or (action_kinds f) j refuse) 3) e
-          ∙ follow-then xs (envelope_form f) (λ x. filled (item (action.Deliver x))) 3)
-          ∙ delivers (follow xs (envelope_form f) 3)
+          kind_at p within ∙ ap (λ (j : ℕ). follow xs (get_or (action_kinds f) j refuse) 3) e
+          ∙ follow-then xs (envelope_form f) (λ x. filled (item (action.Deliver x))) 3
 
-      drop-kind : k ≡ 2 → action_part (follow xs (action_form f) 0) ≡ with_envelope false (envelope_part (follow xs (envelope_form f) 3))
+      drop-kind : k ≡ 2 → follow xs (action_form f) 0 ≡ on_reached (follow xs (envelope_form f) 3) (λ e n. reached (item (action.Drop e)) n)
       unfolding action_kinds
       drop-kind e =
-          ap action_part (kind_at p within ∙ ap (λ (j : ℕ). follow xs (get_or (action_kinds f) j refuse) 3) e
-          ∙ follow-then xs (envelope_form f) (λ x. filled (item (action.Drop x))) 3)
-          ∙ drops (follow xs (envelope_form f) 3)
+          kind_at p within ∙ ap (λ (j : ℕ). follow xs (get_or (action_kinds f) j refuse) 3) e
+          ∙ follow-then xs (envelope_form f) (λ x. filled (item (action.Drop x))) 3
 
-      pub envelope-kind : 1 ≤ k → k ≤ 2
-          → action_part (follow xs (action_form f) 0) ≡ with_envelope (eqb k 1) (envelope_part (follow xs (envelope_form f) 3))
-      envelope-kind g h = go (ℕ_discrete k 1)
+      module _ {e : Envelope} {n : ℕ} (q : Some (e, n) ≡ envelope_part (follow xs (envelope_form f) 3)) where
+        pub deliver-act : k ≡ 1 → follow xs (action_form f) 0 ≡ reached (item (action.Deliver e)) n
+        deliver-act z = deliver-kind z ∙ ap (λ (r : Reached Envelope). on_reached r (λ e n. reached (item (action.Deliver e)) n)) (part-back q)
+
+        pub drop-act : k ≡ 2 → follow xs (action_form f) 0 ≡ reached (item (action.Drop e)) n
+        drop-act z = drop-kind z ∙ ap (λ (r : Reached Envelope). on_reached r (λ e n. reached (item (action.Drop e)) n)) (part-back q)
+
+      pub no-act : None ≡ envelope_part (follow xs (envelope_form f) 3) → 1 ≤ k → k ≤ 2 → follow xs (action_form f) 0 ≡ stuck
+      no-act q g h = go (ℕ_discrete k 1)
         where
-          go : Dec (k ≡ 1) → action_part (follow xs (action_form f) 0) ≡ with_envelope (eqb k 1) (envelope_part (follow xs (envelope_form f) 3))
-          go (yes e) = rw (eq-eqb k 1 e) (deliver-kind e)
-          go (no e) = rw (ne_eqb k 1 e) (drop-kind (omega arith))
+          go : Dec (k ≡ 1) → follow xs (action_form f) 0 ≡ stuck
+          go (yes e) = deliver-kind e ∙ ap (λ (r : Reached Envelope). on_reached r (λ e n. reached (item (action.Deliver e)) n)) (part-back q)
+          go (no e) = drop-kind (omega arith) ∙ ap (λ (r : Reached Envelope). on_reached r (λ e n. reached (item (action.Drop e)) n)) (part-back q)
 
       pub end-kind : k ≡ 0 → follow xs (action_form f) 0 ≡ reached end 3
       unfolding action_kinds
@@ -198,23 +188,7 @@ module _ (xs : List ℕ) where
       recover-kind {i} e g =
           kind_at p within ∙ ap (λ (j : ℕ). follow xs (get_or (action_kinds f) j refuse) 3) e ∙ fed xs (get_or (action_kinds f) 5 refuse) 3 (i ∷ []) (g, tt)
 
--- ---- what the answer of a part says of its form
-abbrev pub message_back : MessagePart → Reached Message
-message_back (messages.Found m n) = reached m n
-message_back messages.Stuck = stuck
-
-pub message-back : {g : Reached Message} {x : MessagePart} → x ≡ message_part g → g ≡ message_back x
-message-back {g = reached m n} e = sym (ap message_back e)
-message-back {g = stuck} e = sym (ap message_back e)
-
-abbrev pub envelope_back : EnvelopePart → Reached Envelope
-envelope_back (envelopes.Found x n) = reached x n
-envelope_back envelopes.Stuck = stuck
-
-pub envelope-back : {g : Reached Envelope} {x : EnvelopePart} → x ≡ envelope_part g → g ≡ envelope_back x
-envelope-back {g = reached y n} e = sym (ap envelope_back e)
-envelope-back {g = stuck} e = sym (ap envelope_back e)
-
+-- ---- what the answer of an action's part says of its form
 abbrev pub action_back : ActionPart → Reached Item
 action_back (actions.Act a n) = reached (item a) n
 action_back (actions.End n) = reached end n
@@ -224,14 +198,6 @@ pub action-back : {g : Reached Item} {x : ActionPart} → x ≡ action_part g �
 action-back {g = reached (item a) n} e = sym (ap action_back e)
 action-back {g = reached end n} e = sym (ap action_back e)
 action-back {g = stuck} e = sym (ap action_back e)
-
--- the action ends where its envelope does
-with-ends : (b : Bool) (x : EnvelopePart) → action_end (with_envelope b x) ≡ envelope_end x
-with-ends b (envelopes.Found e n) = refl
-with-ends b envelopes.Stuck = refl
-
-pub with-end : (b : Bool) (x : EnvelopePart) {r : ActionPart} {m : ℕ} → r ≡ with_envelope b x → envelope_end x ≤ m → action_end r ≤ m
-with-end b x e h = omega (arith, ap action_end e ∙ with-ends b x)
 
 -- every action has a byte: its kind
 pub action-sized : (f : Format) (xs : List ℕ) → Sized xs (action_form f)

@@ -1,8 +1,10 @@
 // The records of a script but its rules. Each is read at a place, as the script's format says: the answer is the value with the place
 // after it, or the place of the bad record.
+// Script, place and format are parameters and no struct: each clause would have to name the loan in its field. `Fine` is a clause, since
+// the rules speak of any format.
 #![tactic(auto)]
 
-ghost use Rattle.std.specs.Prelude.{◌≡◌, List, ℕ, ◌+◌, ◌≤◌, ◌<◌, drop, leb, eqb};
+ghost use Rattle.std.specs.Prelude.{◌≡◌, List, ℕ, ◌+◌, ◌≤◌, ◌<◌, drop, leb, eqb, IfSome};
 ghost use Rattle.lists.specs.Lists.{any};
 ghost use Rattle.layout.specs.Form.{filled, field, follow, only};
 ghost use Rattle.layout.specs.Read.{one};
@@ -10,14 +12,14 @@ ghost use Rattle.script_bits.specs.Front.{Front};
 ghost use Rattle.rules.specs.Script.{version1, versions, format_of, Fine, header_ok, header_form, rule_count_form, envelope_count_form};
 ghost use Rattle.rules.specs.Script.{message_form, envelope_form, action_form, unread};
 ghost use Rattle.script_places.specs.Says.{reading_says};
-ghost use Rattle.script_records.specs.Views.{header_read, count_read, envelope_read, action_read, action_size, message_part, message_end};
-ghost use Rattle.script_records.specs.Views.{envelope_part, envelope_end, action_part, action_end, with_envelope};
+ghost use Rattle.script_records.specs.Views.{header_read, count_read, envelope_read, action_read, message_part, envelope_part, action_part, action_end};
 ghost use Rattle.script_records.specs.Says.{header_says, count_says, envelope_says, action_says};
 
 use script_bits::{cut, cut8, cut32, field, field8, word};
-use script_places::{Ending, end_in, end_of, from};
+use script_places::{BadAt, end_in, end_of, from};
 use types::{Action, Envelope, Format, Id, MOST_ACTORS, MOST_RULES, Message, Number, Payload};
 
+// The kind is a number, as the start takes it.
 #[derive(Clone, Copy)]
 pub struct Header {
     pub version: u8,
@@ -25,45 +27,7 @@ pub struct Header {
     pub actors: u8,
 }
 
-#[derive(Clone, Copy)]
-pub enum HeaderRead {
-    Found(Header, usize),
-    Bad(usize),
-}
-
-// A count of rules or of envelopes.
-#[derive(Clone, Copy)]
-pub enum CountRead {
-    Found(usize, usize),
-    Bad(usize),
-}
-
-#[derive(Clone, Copy)]
-pub enum EnvelopeRead {
-    Found(Envelope, usize),
-    Bad(usize),
-}
-
-#[derive(Clone, Copy)]
-pub enum ActionRead {
-    Act(Action, usize),
-    End(usize),
-    Bad(usize),
-}
-
-// A part of a record and the bit after it, or that nothing has such fields.
-#[derive(Clone, Copy)]
-enum MessagePart {
-    Found(Message, usize),
-    Stuck,
-}
-
-#[derive(Clone, Copy)]
-enum EnvelopePart {
-    Found(Envelope, usize),
-    Stuck,
-}
-
+// The part of an action and the bit after it, or that nothing has such fields. By cases: copied out of an option in an option it takes longer.
 #[derive(Clone, Copy)]
 enum ActionPart {
     Act(Action, usize),
@@ -101,26 +65,14 @@ fn known(version: u8) -> bool
 }
 
 // ---- the header
-// Its conditions, all of which are bad at its place.
+// Its conditions, all of which are bad at its place. They are asked of the numbers that were read, whatever these are.
 fn header_fits(version: u8, kind: u8, actors: u8, zero: u8) -> bool
     ensures { result ≡ header_ok versions version kind actors zero }
 {
-    if !known(version) {
-        return false;
-    }
-    if 2 < kind {
-        return false;
-    }
-    if actors < 1 {
-        return false;
-    }
-    if MOST_ACTORS < actors as usize {
-        return false;
-    }
-    zero == 0
+    known(version) && kind <= 2 && 1 <= actors && actors as usize <= MOST_ACTORS && zero == 0
 }
 
-pub fn read_header(script: &[u8], at: usize) -> HeaderRead
+pub fn read_header(script: &[u8], at: usize) -> Result<(Header, usize), BadAt>
     ensures value { result ≡ header_read (one (header_form versions) (drop at script.now) at) }
     ensures says { header_says result ≡ reading_says (one (header_form versions) (drop at script.now) at) }
 {
@@ -130,42 +82,36 @@ pub fn read_header(script: &[u8], at: usize) -> HeaderRead
     let actors = field8(s, 6, 4);
     let zero = field8(s, 10, 6);
     if !header_fits(version, kind, actors, zero) {
-        return HeaderRead::Bad(at);
+        return Err(BadAt(at));
     }
-    let end = end_of(script, at, 16);
-    match end {
-        Ending::At(next) => HeaderRead::Found(
-            Header {
-                version,
-                kind,
-                actors,
-            },
-            next,
-        ),
-        Ending::Bad => HeaderRead::Bad(at),
-    }
+    let next = end_of(script, at, 16).ok_or(BadAt(at))?;
+    Ok((
+        Header {
+            version,
+            kind,
+            actors,
+        },
+        next,
+    ))
 }
 
 // ---- counts
 // A count of `width` bits, at most `most`.
-fn read_count(script: &[u8], at: usize, width: usize, most: usize) -> CountRead
+fn read_count(script: &[u8], at: usize, width: usize, most: usize) -> Result<(usize, usize), BadAt>
     requires { width ≤ 16 }
     ensures { result ≡ count_read (one (field width (λ c. only (leb c most) (filled c))) (drop at script.now) at) }
 {
     let s = from(script, at);
     let count = field(s, 0, width) as usize;
     if most < count {
-        return CountRead::Bad(at);
+        return Err(BadAt(at));
     }
-    let end = end_of(script, at, width);
-    match end {
-        Ending::At(next) => CountRead::Found(count, next),
-        Ending::Bad => CountRead::Bad(at),
-    }
+    let next = end_of(script, at, width).ok_or(BadAt(at))?;
+    Ok((count, next))
 }
 
 // How many rules a table has.
-pub fn read_rule_count(script: &[u8], at: usize) -> CountRead
+pub fn read_rule_count(script: &[u8], at: usize) -> Result<(usize, usize), BadAt>
     ensures value { result ≡ count_read (one rule_count_form (drop at script.now) at) }
     ensures says { count_says result ≡ reading_says (one rule_count_form (drop at script.now) at) }
 {
@@ -173,7 +119,7 @@ pub fn read_rule_count(script: &[u8], at: usize) -> CountRead
 }
 
 // How many envelopes are on the network at the start.
-pub fn read_envelope_count(script: &[u8], at: usize, f: Format) -> CountRead
+pub fn read_envelope_count(script: &[u8], at: usize, f: Format) -> Result<(usize, usize), BadAt>
     requires { Fine f }
     ensures value { result ≡ count_read (one (envelope_count_form f) (drop at script.now) at) }
     ensures says { count_says result ≡ reading_says (one (envelope_count_form f) (drop at script.now) at) }
@@ -182,10 +128,10 @@ pub fn read_envelope_count(script: &[u8], at: usize, f: Format) -> CountRead
 }
 
 // ---- an envelope. No format's envelope or action is longer than 123 bits: w and v are the two words that stand at its place.
-fn message_part(w: u64, v: u64, at: usize, f: Format) -> MessagePart
+fn message_part(w: u64, v: u64, at: usize, f: Format) -> Option<(Message, usize)>
     requires { (at ≤ 24) × Fine f }
     ensures by_index { (xs : List ℕ) → Front xs w v → result ≡ message_part (follow xs (message_form f) at) }
-    ensures short { message_end result ≤ at + 104 }
+    ensures short { IfSome result (λ m. m.1 ≤ at + 104) }
 {
     let tag = cut8(w, v, at, f.tag);
     let b = at + f.tag;
@@ -194,38 +140,35 @@ fn message_part(w: u64, v: u64, at: usize, f: Format) -> MessagePart
     match tag {
         0 => {
             let payload = cut32(w, v, after, 32);
-            MessagePart::Found(
+            Some((
                 Message::Deliver(Number(number), Payload(payload)),
                 after + 32,
-            )
+            ))
         }
-        1 => MessagePart::Found(Message::Ack(Number(number)), after),
-        _ => MessagePart::Stuck,
+        1 => Some((Message::Ack(Number(number)), after)),
+        _ => None,
     }
 }
 
-fn envelope_part(w: u64, v: u64, at: usize, f: Format) -> EnvelopePart
+fn envelope_part(w: u64, v: u64, at: usize, f: Format) -> Option<(Envelope, usize)>
     requires { (at ≤ 8) × Fine f }
     ensures by_index { (xs : List ℕ) → Front xs w v → result ≡ envelope_part (follow xs (envelope_form f) at) }
-    ensures short { envelope_end result ≤ at + 120 }
+    ensures short { IfSome result (λ e. e.1 ≤ at + 120) }
 {
     let src = cut8(w, v, at, 8);
     let dst = cut8(w, v, at + 8, 8);
-    let m = message_part(w, v, at + 16, f);
-    match m {
-        MessagePart::Found(msg, end) => EnvelopePart::Found(
-            Envelope {
-                src: Id(src),
-                dst: Id(dst),
-                msg,
-            },
-            end,
-        ),
-        MessagePart::Stuck => EnvelopePart::Stuck,
-    }
+    let (msg, end) = message_part(w, v, at + 16, f)?;
+    Some((
+        Envelope {
+            src: Id(src),
+            dst: Id(dst),
+            msg,
+        },
+        end,
+    ))
 }
 
-pub fn read_envelope(script: &[u8], at: usize, f: Format) -> EnvelopeRead
+pub fn read_envelope(script: &[u8], at: usize, f: Format) -> Result<(Envelope, usize), BadAt>
     requires { Fine f }
     ensures value { result ≡ envelope_read (one (envelope_form f) (drop at script.now) at) }
     ensures says { envelope_says result ≡ reading_says (one (envelope_form f) (drop at script.now) at) }
@@ -233,34 +176,12 @@ pub fn read_envelope(script: &[u8], at: usize, f: Format) -> EnvelopeRead
     let s = from(script, at);
     let w = word(s, 0);
     let v = word(s, 8);
-    let x = envelope_part(w, v, 0, f);
-    match x {
-        EnvelopePart::Found(e, used) => {
-            let end = end_in(script, at, w, v, used);
-            match end {
-                Ending::At(next) => EnvelopeRead::Found(e, next),
-                Ending::Bad => EnvelopeRead::Bad(at),
-            }
-        }
-        EnvelopePart::Stuck => EnvelopeRead::Bad(at),
-    }
+    let (e, used) = envelope_part(w, v, 0, f).ok_or(BadAt(at))?;
+    let next = end_in(script, at, w, v, used).ok_or(BadAt(at))?;
+    Ok((e, next))
 }
 
-// ---- an action
-fn with_envelope(x: EnvelopePart, delivers: bool) -> ActionPart
-    ensures { result ≡ with_envelope delivers x }
-{
-    match x {
-        EnvelopePart::Found(e, end) => {
-            if delivers {
-                return ActionPart::Act(Action::Deliver(e), end);
-            }
-            ActionPart::Act(Action::Drop(e), end)
-        }
-        EnvelopePart::Stuck => ActionPart::Stuck,
-    }
-}
-
+// ---- an action, or None at the end
 // Its kind, of which the format has so many, and what belongs to it.
 fn action_part(w: u64, v: u64, f: Format) -> ActionPart
     requires { Fine f }
@@ -273,7 +194,15 @@ fn action_part(w: u64, v: u64, f: Format) -> ActionPart
     }
     match kind {
         0 => ActionPart::End(3),
-        1 | 2 => with_envelope(envelope_part(w, v, 3, f), kind == 1),
+        1 | 2 => match envelope_part(w, v, 3, f) {
+            Some((e, end)) => {
+                if kind == 1 {
+                    return ActionPart::Act(Action::Deliver(e), end);
+                }
+                ActionPart::Act(Action::Drop(e), end)
+            }
+            None => ActionPart::Stuck,
+        },
         3 => {
             let id = cut8(w, v, 3, 8);
             let timer = cut8(w, v, 11, 5);
@@ -291,8 +220,7 @@ fn action_part(w: u64, v: u64, f: Format) -> ActionPart
     }
 }
 
-// One action, or end.
-pub fn read_action(script: &[u8], at: usize, f: Format) -> ActionRead
+pub fn read_action(script: &[u8], at: usize, f: Format) -> Result<(Option<Action>, usize), BadAt>
     requires { Fine f }
     ensures value { result ≡ action_read (one (action_form f) (drop at script.now) at) }
     ensures says { action_says result ≡ reading_says (one (action_form f) (drop at script.now) at) }
@@ -300,51 +228,37 @@ pub fn read_action(script: &[u8], at: usize, f: Format) -> ActionRead
     let s = from(script, at);
     let w = word(s, 0);
     let v = word(s, 8);
-    let x = action_part(w, v, f);
-    match x {
+    match action_part(w, v, f) {
         ActionPart::Act(a, used) => {
-            let end = end_in(script, at, w, v, used);
-            match end {
-                Ending::At(next) => ActionRead::Act(a, next),
-                Ending::Bad => ActionRead::Bad(at),
-            }
+            let Some(next) = end_in(script, at, w, v, used) else {
+                return Err(BadAt(at));
+            };
+            Ok((Some(a), next))
         }
         ActionPart::End(used) => {
-            let end = end_in(script, at, w, v, used);
-            match end {
-                Ending::At(next) => ActionRead::End(next),
-                Ending::Bad => ActionRead::Bad(at),
-            }
+            let Some(next) = end_in(script, at, w, v, used) else {
+                return Err(BadAt(at));
+            };
+            Ok((None, next))
         }
-        ActionPart::Stuck => ActionRead::Bad(at),
+        ActionPart::Stuck => Err(BadAt(at)),
     }
 }
 
-// One action, or end, from the front of a script of this version. The place after it is its size.
-pub fn take_action(s: &[u8], version: u8) -> ActionRead
+// One action, or the end, from the front of a script of this version. The place after it is its size.
+pub fn take_action(s: &[u8], version: u8) -> Result<(Option<Action>, usize), BadAt>
     ensures value { result ≡ action_read (one (action_form (format_of versions version)) s.now 0) }
     ensures says { action_says result ≡ reading_says (one (action_form (format_of versions version)) s.now 0) }
 {
-    let f = format_of(version);
-    read_action(s, 0, f)
-}
-
-// How many bytes were taken from the front; none of a bad record.
-fn size_of(x: ActionRead) -> usize
-    ensures { result ≡ action_size x }
-{
-    match x {
-        ActionRead::Act(_, n) => n,
-        ActionRead::End(n) => n,
-        ActionRead::Bad(_) => 0,
-    }
+    read_action(s, 0, format_of(version))
 }
 
 // The same script from the next record on; all of it where the record is bad.
 pub fn rest(s: &[u8], version: u8) -> &[u8]
     ensures { result.now ≡ unread (format_of versions version) s.now }
 {
-    let x = take_action(s, version);
-    let n = size_of(x);
-    from(s, n)
+    match take_action(s, version) {
+        Ok((_, size)) => from(s, size),
+        Err(_) => s,
+    }
 }

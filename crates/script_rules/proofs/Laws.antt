@@ -5,7 +5,6 @@ use native.Mathlib.Omega.{arith}
 use native.Mathlib.Numerals.{add-one}
 use mathlib.Core.Path.{◌≡◌, refl, sym, ap, ◌∙◌}
 use mathlib.Core.List.{List, [], ◌∷◌, ◌++◌, map}
-use mathlib.Core.Bool.{true, false, true≢false}
 use borrow.Author.Tests.{le-leb, lt-leb}
 use lib.ListN.{take, set, get_or-eq_default}
 use lib.Seq.{take-suc-set}
@@ -23,10 +22,7 @@ use Rattle.types.specs.declared.Slot.{Slot}
 use Rattle.rules.specs.Inner.{zero_slot, slots_of}
 use Rattle.rules.specs.Script.{flag, command_kinds, command_form, rule_form}
 use Rattle.script_places.proofs.Laws.{then-stuck, moved, fed-on}
-use Rattle.script_rules.specs.declared.CommandPart.{CommandPart}
-use Rattle.script_rules.specs.declared.CommandPart.TheVariants as commands
-use Rattle.script_rules.specs.declared.CommandsPart.{CommandsPart}
-use Rattle.script_rules.specs.Views.{commands_part, rule_with, command_part}
+use Rattle.script_rules.specs.Views.{rule_with}
 
 -- One of so many is stuck: all of them are.
 pub times-stuck
@@ -140,23 +136,6 @@ module _ (xs : List ℕ) where
 
       pub no-rule : most_commands < c → follow xs (rule_form f) 0 ≡ stuck
       no-rule h = rule-rest ∙ follow-not xs (then (times c (command_form f)) (λ cs. filled (rule_with xs f.event (slots_of cs) c))) b (lt-leb _ _ h)
-
--- ---- what the answer of a part says of its form
-abbrev pub command_back : CommandPart → Reached RuleCommand
-command_back (commands.Found c n) = reached c n
-command_back commands.Stuck = stuck
-
-pub command-back : {g : Reached RuleCommand} {x : CommandPart} → x ≡ command_part g → g ≡ command_back x
-command-back {g = reached c n} e = sym (ap command_back e)
-command-back {g = stuck} e = sym (ap command_back e)
-
-pub commands-found : {g : Reached (List Slot)} {r : CommandsPart} → r ≡ commands_part g → r.found ≡ true → g ≡ reached r.commands r.end
-commands-found {g = reached cs n} e h = sym (λ i. reached (e i).commands (e i).end)
-commands-found {g = stuck} e h = absurd (true≢false (sym h ∙ ap (λ (x : CommandsPart). x.found) e))
-
-pub commands-stuck : {g : Reached (List Slot)} {r : CommandsPart} → r ≡ commands_part g → r.found ≡ false → g ≡ stuck
-commands-stuck {g = reached cs n} e h = absurd (true≢false (sym (ap (λ (x : CommandsPart). x.found) e) ∙ h))
-commands-stuck {g = stuck} e h = refl
 
 -- ---- the slots of a rule
 slots-back : (l : List Slot) → map (λ (c : RuleCommand). record { command = c }) (map (λ (s : Slot). s.command) l) ≡ l

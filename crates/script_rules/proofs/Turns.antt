@@ -6,6 +6,7 @@ use mathlib.Core.Path.{◌≡◌, sym, ap, ◌∙◌}
 use mathlib.Core.List.{List, [], ◌∷◌, ◌++◌, map, map-append}
 use lib.ListN.{take, set}
 use native.Mathlib.Numerals.{add-one}
+use Rattle.std.specs.Prelude.{Some, None}
 use Rattle.lists.specs.Lists.{pad}
 use Rattle.layout.specs.Form.{reached, stuck, follow, times}
 use Rattle.layout.proofs.Laws.{follow-more}
@@ -15,9 +16,9 @@ use Rattle.types.specs.declared.RuleCommand.{RuleCommand}
 use Rattle.types.specs.declared.Slot.{Slot}
 use Rattle.rules.specs.Inner.{zero_slot}
 use Rattle.rules.specs.Script.{command_form}
-use Rattle.script_rules.specs.declared.CommandPart.TheVariants as commands
+use Rattle.script_places.proofs.Laws.{part-back}
 use Rattle.script_rules.specs.Views.{command_part}
-use Rattle.script_rules.proofs.Laws.{times-stuck, command-back, more-used, more-laid}
+use Rattle.script_rules.proofs.Laws.{times-stuck, more-used, more-laid}
 
 abbrev pub told1 : Slot → RuleCommand
 told1 s = s.command
@@ -33,7 +34,7 @@ pub record Turn (s : List ℕ) (at count : ℕ) (f : Format) (cs : List Slot) (e
   pub reads : follow s (times i (command_form f)) at ≡ reached (told (take i cs)) end
 
 module _ {s : List ℕ} {at count : ℕ} {f : Format} {cs : List Slot} {end i : ℕ} (t : Turn s at count f cs end i) (less : i < count) where
-  pub one_more : {x : RuleCommand} {n : ℕ} → count ≤ most_commands → commands.Found x n ≡ command_part (follow s (command_form f) end) → n ≤ end + 50
+  pub one_more : {x : RuleCommand} {n : ℕ} → count ≤ most_commands → Some (x, n) ≡ command_part (follow s (command_form f) end) → n ≤ end + 50
       → Turn s at count f (set cs i (record { command = x })) n (i + 1)
   one_more {x} {n} room k near =
       let w : cs ≡ pad most_commands zero_slot (take i cs) = t.laid in
@@ -44,12 +45,12 @@ module _ {s : List ℕ} {at count : ℕ} {f : Format} {cs : List Slot} {end i : 
         near = omega (arith, t.near);
         laid = more-laid most_commands zero_slot cs i (omega arith) w y;
         reads = ap (λ (j : ℕ). follow s (times j (command_form f)) at) (add-one i)
-            ∙ follow-more s (command_form f) i at t.reads (command-back k)
+            ∙ follow-more s (command_form f) i at t.reads (part-back k)
             ∙ ap (λ (q : List RuleCommand). reached q n) (sym (ap told e ∙ map-append told1 (take i cs) (y ∷ [])));
       }
 
-  pub all-stuck : commands.Stuck ≡ command_part (follow s (command_form f) end) → follow s (times count (command_form f)) at ≡ stuck
+  pub all-stuck : None ≡ command_part (follow s (command_form f) end) → follow s (times count (command_form f)) at ≡ stuck
   all-stuck k =
       let e : i + suc (count - (i + 1)) ≡ count = omega arith in
       ap (λ (j : ℕ). follow s (times j (command_form f)) at) (sym e)
-      ∙ times-stuck s (command_form f) i (count - (i + 1)) at t.reads (command-back k)
+      ∙ times-stuck s (command_form f) i (count - (i + 1)) at t.reads (part-back k)

@@ -14,12 +14,11 @@ use Rattle.types.specs.declared.Id.{Id}
 use Rattle.types.specs.declared.Kind.{Kind}
 use Rattle.types.specs.declared.Rule.{Rule}
 use Rattle.types.specs.declared.Envelope.{Envelope}
-use Rattle.types.specs.declared.LastMessage.{LastMessage}
-use Rattle.types.specs.declared.LastMessage.TheVariants as last
+use Rattle.std.specs.Prelude.{Option, None}
 use Rattle.types.specs.declared.Action.{Action}
 use Rattle.types.specs.declared.Action.TheVariants.{Deliver, Drop, Timeout, Crash, Recover}
-use Rattle.answers.specs.declared.Answer.{Answer}
-use Rattle.answers.specs.declared.Answer.TheVariants.{Done, Ignored, OutOfRange}
+use Rattle.answers.specs.Answers.{Answer}
+use Rattle.answers.specs.Answers.{Done, Ignored, OutOfRange}
 use Rattle.answers.specs.Answers.{answer_of, answer_number, is_done}
 use Rattle.rules.specs.Outcome.{Outcome, done, refused, bind, guard}
 use Rattle.rules.specs.Network.{Net, is_duplicating, present, dropping, on_drop}
@@ -66,18 +65,13 @@ module _ (count : ℕ) (rs : List Rule) (kind : Kind) (used n : ℕ) (x : Rows) 
       subst (λ (z : Action). Stepped count z (seat_of count z) rs kind used n x r x') (sym e)
       (subst (λ (i : Id). Stepped count b i rs kind used n x r x') (sym (seat-is count b q)) s)
 
-  -- What is answered is this.
-  pub as-told : (a : Action) (i : Id) (r r' : Sent) (x' : Rows) → r ≡ r' → Stepped count a i rs kind used n x r' x'
-      → Stepped count a i rs kind used n x r x'
-  as-told a i r r' x' e s = subst (λ (z : Sent). Stepped count a i rs kind used n x z x') (sym e) s
-
   -- ---- nobody there
   module _ (fine : Fine kind used n x) where
-    abbrev o : (a : Action) (i : Id) → Around i → LastMessage → Outcome Sys
+    abbrev o : (a : Action) (i : Id) → Around i → Option Envelope → Outcome Sys
     o a i hall last = systems (act (caps_of x.cells) (sys_at i hall kind last used rs x) a)
 
     none : (a : Action) (why : Answer) → is_done why ≡ false
-        → ((i : Id) (hall : Around i) → length hall.sys.actors ≡ count → (last : LastMessage) → o a i hall last ≡ refused (answer_number why))
+        → ((i : Id) (hall : Around i) → length hall.sys.actors ≡ count → (last : Option Envelope) → o a i hall last ≡ refused (answer_number why))
         → Stepped count a (seat_of count a) rs kind used n x (record { answer = why; used = used; len = n }) x
     none a why f e = ended-refused (seat_of count a) count rs (o a (seat_of count a)) (last_then kind a) kind used n x fine why f (e (seat_of count a))
 
@@ -145,9 +139,9 @@ module _ (count : ℕ) (rs : List Rule) (kind : Kind) (used n : ℕ) (x : Rows) 
       x' = record { cells = cs'; live = x.live; pend = x.pend; kept = x.kept; stored = x.stored }
 
       abbrev there : Bool
-      there = is_duplicating kind || present e (net_of kind last.Nothing x.cells used)
+      there = is_duplicating kind || present e (net_of kind None x.cells used)
 
-      at-seat : (hall : Around i) → length hall.sys.actors ≡ count → (last : LastMessage)
+      at-seat : (hall : Around i) → length hall.sys.actors ≡ count → (last : Option Envelope)
           → o (Drop e) i hall last ≡ guard (ltb e.src.0 count) 2
           (bind (guard there 3 (done (dropping e (net_of kind last x.cells used)))) (λ m. done (holding i hall m (actor_at rs x))))
       unfolding on_drop present
@@ -163,21 +157,21 @@ module _ (count : ℕ) (rs : List Rule) (kind : Kind) (used n : ℕ) (x : Rows) 
           (ended-refused i count rs (o (Drop e) i) (last_then kind (Drop e)) kind used n x fine OutOfRange refl
           (λ hall size last. at-seat hall size last ∙ rw (le-ltb e.src.0 count h)))
 
-      module _ (h : e.src.0 < count) (ch : (last : LastMessage) → Changed x.cells used n (on_drop e (net_of kind last x.cells used)) r cs') where
-        left : (b : Bool) → there ≡ b → (last : LastMessage)
+      module _ (h : e.src.0 < count) (ch : (last : Option Envelope) → Changed x.cells used n (on_drop e (net_of kind last x.cells used)) r cs') where
+        left : (b : Bool) → there ≡ b → (last : Option Envelope)
             → Changed x.cells used n (guard b 3 (done (dropping e (net_of kind last x.cells used)))) r cs'
         unfolding on_drop present
         left b q last = subst (λ (t : Bool). Changed x.cells used n (guard t 3 (done (dropping e (net_of kind last x.cells used)))) r cs') q (ch last)
 
         fine' : Fine kind r.used r.len x'
         fine' = record {
-          net = drop-ready kind last.Nothing x.cells used n fine.net r cs' e (ch last.Nothing);
-          room = (ch last.Nothing).room ∙ fine.room;
+          net = drop-ready kind None x.cells used n fine.net r cs' e (ch None);
+          room = (ch None).room ∙ fine.room;
           live = fine.live;
           kept = fine.kept;
         }
 
-        known-source : (hall : Around i) → length hall.sys.actors ≡ count → (last : LastMessage) (b : Bool) → there ≡ b
+        known-source : (hall : Around i) → length hall.sys.actors ≡ count → (last : Option Envelope) (b : Bool) → there ≡ b
             → o (Drop e) i hall last ≡ bind (guard b 3 (done (dropping e (net_of kind last x.cells used)))) (λ m. done (holding i hall m (actor_at rs x)))
         unfolding guard
         known-source hall size last b q = at-seat hall size last ∙ rw (lt-ltb e.src.0 count h, q)
@@ -185,7 +179,7 @@ module _ (count : ℕ) (rs : List Rule) (kind : Kind) (used n : ℕ) (x : Rows) 
         by-there : (b : Bool) → there ≡ b → Ended i count rs (o (Drop e) i) (last_then kind (Drop e)) kind used n x r x'
         unfolding guard bind answer_of last_then dropping
         by-there true q =
-            let z = (left true q last.Nothing).left in
+            let z = (left true q None).left in
             let t : is_done r.answer ≡ true = ap is_done z.0 in
             record {
               fine = fine';
@@ -197,7 +191,7 @@ module _ (count : ℕ) (rs : List Rule) (kind : Kind) (used n : ℕ) (x : Rows) 
               same = λ f. absurd (not-both (is_done r.answer) t f);
             }
         by-there false q =
-            let z = (left false q last.Nothing).left in
+            let z = (left false q None).left in
             let f : is_done r.answer ≡ false = ap is_done z.0 in
             record {
               fine = fine';

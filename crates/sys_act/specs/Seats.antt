@@ -1,15 +1,14 @@
 -- Which actor an action touches, and what a Drop and a Crash leave of the rows.
 -- Assumes nothing.
-use Rattle.std.specs.Prelude.{ℕ, ◌≤◌, ◌<◌, ◌≡◌, List, set, ltb}
+use Rattle.std.specs.Prelude.{ℕ, ◌≤◌, ◌<◌, ◌≡◌, List, set, ltb, Option}
 use Rattle.lists.specs.Lists.{choose}
 use Rattle.types.specs.declared.Id.{Id}
 use Rattle.types.specs.declared.Kind.{Kind}
 use Rattle.types.specs.declared.Envelope.{Envelope}
-use Rattle.types.specs.declared.LastMessage.{LastMessage}
 use Rattle.types.specs.declared.Action.{Action}
 use Rattle.types.specs.declared.Action.TheVariants.{Deliver, Drop, Timeout, Crash, Recover}
-use Rattle.answers.specs.declared.Answer.{Answer}
-use Rattle.answers.specs.declared.Answer.TheVariants.{Ignored, OutOfRange}
+use Rattle.answers.specs.Answers.{Answer}
+use Rattle.answers.specs.Answers.{Ignored, OutOfRange}
 use Rattle.rules.specs.Network.{on_drop}
 use Rattle.net_rows.specs.declared.Sent.{Sent}
 use Rattle.net_rows.specs.Views.{net_of, Changed}
@@ -32,7 +31,7 @@ seat_of n a = record { 0 = seat n a }
 -- A Drop: 2, else as the network says.
 pub record Dropped (kind : Kind) (e : Envelope) (count used n : ℕ) (cs : List (List ℕ)) (r : Sent) (cs' : List (List ℕ)) : Type 0 where
   pub unknown : count ≤ e.src.0 → (r ≡ record { answer = OutOfRange; used = used; len = n }) × (cs' ≡ cs)
-  pub drops : e.src.0 < count → (last : LastMessage) → Changed cs used n (on_drop e (net_of kind last cs used)) r cs'
+  pub drops : e.src.0 < count → (last : Option Envelope) → Changed cs used n (on_drop e (net_of kind last cs used)) r cs'
 
 -- A message to nobody: 2 for its source, and else Ignored.
 abbrev pub unheard_of : ℕ → Envelope → Answer

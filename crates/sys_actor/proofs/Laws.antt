@@ -2,19 +2,17 @@
 -- Assumes nothing.
 use Prim.Native.Nat.{ℕ, ◌≤◌, ◌<◌}
 use mathlib.Core.Path.{◌≡◌, refl, sym, ap, ◌∙◌}
-use mathlib.Core.Bool.{Bool, true, false, ◌||◌, true≢false, false≢true}
-use mathlib.Core.Option.{Option, none, some}
+use mathlib.Core.Bool.{Bool, true, false, not, ◌&&◌, ◌||◌, and-true, true≢false, false≢true}
+use Rattle.std.specs.Prelude.{Option, Some, None}
 use mathlib.Core.List.{List, []}
 use lib.ListN.{length, take}
-use lib.Dec.{leb, lit≤}
+use lib.Dec.{leb, eqb, lit≤}
 use borrow.Author.Tests.{leb-true, le-leb, eqb-true}
 use Rattle.types.specs.Capacities.{most_pending, most_actors, last_state, network}
 use Rattle.lists.specs.Lists.{choose, every}
 use Rattle.lists.proofs.Members.{every-cons, every-make, every-nil, all_in, all-make, not-true}
 use Rattle.lists.proofs.Chains.{chain-is, is-chain}
 use Rattle.types.specs.declared.Rule.{Rule}
-use Rattle.types.specs.declared.Storage.{Storage}
-use Rattle.types.specs.declared.Storage.TheVariants.{Nothing, Value}
 use Rattle.rules.specs.Outcome.{base}
 use Rattle.rules.specs.Link as rules
 use Rattle.rules.specs.System as system
@@ -39,13 +37,13 @@ use Rattle.link_durable.specs.Views.{
 use Rattle.link_durable.proofs.Containers.{DurableLaid, durable-is, durable-fits, durable-back, durable-same}
 use Rattle.link_durable.proofs.Kept.{fine-laid, fine-formed, stored-laid, stored-formed, durable-kept, stored-kept}
 use Rattle.sys_actor.specs.declared.Actor.{Actor}
-use Rattle.sys_actor.specs.Views.{actor_view, actor_as, ActorLaid, actor_laid, quiet, actor_fine, zero_actor, zeroed, blank_actor}
+use Rattle.sys_actor.specs.Views.{actor_view, actor_as, ActorLaid, actor_laid, quiet, link_fine, rest_fine, actor_fine, zero_actor, zeroed, marks_zero, parts_zero, blank_actor}
 
 -- ---- seen again in their structs
 stored_back : (o : Option rules.Durable) → stored_view (stored_as o) ≡ o
 unfolding stored_view choose
-stored_back none = refl
-stored_back (some d) = ap some (durable-back d)
+stored_back None = refl
+stored_back (Some d) = ap Some (durable-back d)
 
 pub actor-back : (a : system.Actor) → TimerSet a.timers → actor_view a.rules (actor_as a) ≡ a
 actor-back a h =
@@ -53,10 +51,10 @@ actor-back a h =
     λ i. record { rules = a.rules; crashed = a.crashed; timers = t i; link = record { durable = d i; state = a.link.state }; storage = s i }
 
 -- ---- durable parts that are all zero, and what is stored
-is-unsaved : (s : Storage) → unsaved s ≡ true → s ≡ Nothing
+is-unsaved : (s : Option ℕ) → unsaved s ≡ true → s ≡ None
 unfolding unsaved
-is-unsaved Nothing e = refl
-is-unsaved (Value v) e = absurd (true≢false (sym e))
+is-unsaved None e = refl
+is-unsaved (Some v) e = absurd (true≢false (sym e))
 
 none_of : {A : Type 0} (n : ℕ) (l : List A) → n ≡ 0 → take n l ≡ []
 none_of {A} n l e = ap (λ (k : ℕ). take k l) e
@@ -67,8 +65,8 @@ module _ (d : Durable) (laid : DurableLaid d) where
   zero-durable e =
       let a = every-cons _ _ e in let b = every-cons _ _ a.1 in let c = every-cons _ _ b.1 in
       let n = eqb-true d.next.0 0 a.0 in
-      let p : take d.pending.used d.pending.records ≡ [] = none_of d.pending.used d.pending.records (eqb-true _ _ b.0) in
-      let t : take d.taken.used d.taken.last ≡ [] = none_of d.taken.used d.taken.last (eqb-true _ _ c.0) in
+      let p : take d.pending.used d.pending.places ≡ [] = none_of d.pending.used d.pending.places (eqb-true _ _ b.0) in
+      let t : take d.taken.used d.taken.places ≡ [] = none_of d.taken.used d.taken.places (eqb-true _ _ c.0) in
       let s = is-unsaved d.inner (every-cons _ _ c.1).0 in
       durable-same d laid ∙ λ i. durable_as (record { next = record { 0 = n i }; pending = p i; taken = t i; inner = s i })
 
@@ -77,17 +75,17 @@ module _ (s : Stored) (laid : DurableLaid s.durable) where
   unfolding stored_laid stored_view choose
   stored_same e = go s.some refl (every-cons _ _ (every-cons _ _ e).1).0
     where
-      go : (b : Bool) → s.some ≡ b → (b || blank_durable s.durable) ≡ true → s ≡ stored_as (choose b (some (durable_view s.durable)) none)
+      go : (b : Bool) → s.some ≡ b → (b || blank_durable s.durable) ≡ true → s ≡ stored_as (choose b (Some (durable_view s.durable)) None)
       go true f h = λ i. record { some = f i; durable = durable-same s.durable laid i }
       go false f h = λ i. record { some = f i; durable = zero-durable s.durable laid h i }
 
 -- ---- an actor that passes
 -- What the type says of any actor: the lengths of its arrays, and a word of 32 bits.
 pub record Typed (a : Actor) : Type 0 where
-  pub pending : length a.link.durable.pending.records ≡ most_pending
-  pub taken : length a.link.durable.taken.last ≡ most_actors
-  pub stored-pending : length a.stored.durable.pending.records ≡ most_pending
-  pub stored-taken : length a.stored.durable.taken.last ≡ most_actors
+  pub pending : length a.link.durable.pending.places ≡ most_pending
+  pub taken : length a.link.durable.taken.places ≡ most_actors
+  pub stored-pending : length a.stored.durable.pending.places ≡ most_pending
+  pub stored-taken : length a.stored.durable.taken.places ≡ most_actors
   pub word : a.timers.0 < 4294967296
 
 pub record Fine (k : ℕ) (a : Actor) : Type 0 where
@@ -200,9 +198,35 @@ module _ (k : ℕ) (a : system.Actor) (ok : actor_ok base.limits k a ≡ true) w
         still = rw t a4.0;
       })
 
+-- ---- the code's answers, by the parts that it asks
+all_four : (a b c d : Bool) → (a && (b && (c && (d && true)))) ≡ ((a && b) && (c && d))
+all_four true true c d = rw (and-true d)
+all_four true false c d = refl
+all_four false b c d = refl
+
+all-six : (a b c d e f : Bool) → (a && (b && (c && (d && (e && (f && true)))))) ≡ ((a && (b && (c && d))) && (e && f))
+all-six true true true true e f = rw (and-true f)
+all-six true true true false e f = refl
+all-six true true false d e f = refl
+all-six true false c d e f = refl
+all-six false b c d e f = refl
+
 -- ---- the code's answers: a refusal says nothing more
 pub refuses : {P : Type 0} (b : Bool) → b ≡ false → (false ≡ b) × (false ≡ true → P)
 refuses b e = (sym e, λ t. absurd (false≢true t))
 
 pub tells : {P : Type 0} (b r : Bool) → (b ≡ true → P) → r ≡ b → (r ≡ b) × (r ≡ true → P)
 tells b r f e = (e, λ t. f (sym e ∙ t))
+
+module _ (a : Actor) (t : Typed a) (r : Bool) where
+  pub told-fine : (k : ℕ) → (link_fine k a.link && rest_fine k a) ≡ r → (r ≡ actor_fine k a) × (r ≡ true → ActorLaid a)
+  unfolding actor_fine every
+  told-fine k e =
+      tells (actor_fine k a) r (λ f. actor-laid a t (fine-laid-out k a f))
+      (sym (all_four (durable_fine k a.link.durable) (leb a.link.state last_state) (stored_fine k a.stored) (quiet a) ∙ e))
+
+  pub told_blank : (marks_zero a && parts_zero a) ≡ r → (r ≡ blank_actor a) × (r ≡ true → a ≡ zero_actor)
+  unfolding blank_actor every
+  told_blank e =
+      tells (blank_actor a) r (blank-zero a t)
+      (sym (all-six (not a.crashed) (eqb a.timers.0 0) (eqb a.link.state 0) (not a.stored.some) (zeroed a.link.durable) (zeroed a.stored.durable) ∙ e))

@@ -3,11 +3,11 @@
 
 ghost use Rattle.std.specs.Prelude.{◌≡◌, true};
 ghost use Rattle.link_durable.specs.Views.{zero_durable, durable_as};
-ghost use Rattle.sys_actor.specs.Views.{ActorLaid, quiet, actor_fine, zero_actor, zeroed, blank_actor};
+ghost use Rattle.sys_actor.specs.Views.{ActorLaid, quiet, link_fine, rest_fine, actor_fine, zero_actor, zeroed, marks_zero, parts_zero, blank_actor};
 
 use link_durable::{Durable, Link, Pendings, Stored, Taken, durable_ok, stored_ok};
 use link_timers::Timers;
-use types::{Id, LAST_STATE, MOST_ACTORS, MOST_PENDING, Number, Payload, Pending, Storage};
+use types::{Id, LAST_STATE, MOST_ACTORS, MOST_PENDING, Number, Payload, Pending};
 
 #[derive(Clone, Copy)]
 pub struct Actor {
@@ -29,14 +29,14 @@ fn no_durable() -> Durable
     Durable {
         next: Number(0),
         pending: Pendings {
-            records: [q; MOST_PENDING],
+            places: [q; MOST_PENDING],
             used: 0,
         },
         taken: Taken {
-            last: [Number(0); MOST_ACTORS],
+            places: [Number(0); MOST_ACTORS],
             used: 0,
         },
-        inner: Storage::Nothing,
+        inner: None,
     }
 }
 
@@ -64,11 +64,21 @@ pub fn zero_actor() -> Actor
 fn is_quiet(a: Actor) -> bool
     ensures { result ≡ quiet a }
 {
-    if !a.crashed {
-        return true;
-    }
-    let ts = a.timers;
-    Timers::count(ts) == 0
+    !a.crashed || Timers::count(a.timers) == 0
+}
+
+// The link of an actor of so many.
+fn link_ok(l: Link, actors: usize) -> bool
+    ensures { result ≡ link_fine actors l }
+{
+    durable_ok(l.durable, actors) && l.state <= LAST_STATE
+}
+
+// What it has stored, and its timers.
+fn rest_ok(a: Actor, actors: usize) -> bool
+    ensures { result ≡ rest_fine actors a }
+{
+    stored_ok(a.stored, actors) && is_quiet(a)
 }
 
 // An actor of so many. One that passes is laid out.
@@ -76,19 +86,7 @@ pub fn actor_ok(a: Actor, actors: usize) -> bool
     ensures value { result ≡ actor_fine actors a }
     ensures laid { result ≡ true → ActorLaid a }
 {
-    let l = a.link;
-    let d = l.durable;
-    let s = a.stored;
-    if !durable_ok(d, actors) {
-        return false;
-    }
-    if LAST_STATE < l.state {
-        return false;
-    }
-    if !stored_ok(s, actors) {
-        return false;
-    }
-    is_quiet(a)
+    link_ok(a.link, actors) && rest_ok(a, actors)
 }
 
 // All zero, as where nothing is stored.
@@ -102,29 +100,23 @@ fn zero_durable(d: Durable) -> bool
     stored_ok(s, 0)
 }
 
+// By parts, and not by == with the zero actor: of a derived == the check leaves open that it decides equality, arrays and all.
+fn marks_zero(a: Actor) -> bool
+    ensures { result ≡ marks_zero a }
+{
+    !a.crashed && a.timers.0 == 0 && a.link.state == 0 && !a.stored.some
+}
+
+fn parts_zero(a: Actor) -> bool
+    ensures { result ≡ parts_zero a }
+{
+    zero_durable(a.link.durable) && zero_durable(a.stored.durable)
+}
+
 // An actor that is not used. One that passes is the zero actor.
 pub fn blank_actor(a: Actor) -> bool
     ensures value { result ≡ blank_actor a }
     ensures zero { result ≡ true → a ≡ zero_actor }
 {
-    let l = a.link;
-    let d = l.durable;
-    let s = a.stored;
-    if a.crashed {
-        return false;
-    }
-    if a.timers.0 != 0 {
-        return false;
-    }
-    if l.state != 0 {
-        return false;
-    }
-    if s.some {
-        return false;
-    }
-    if !zero_durable(d) {
-        return false;
-    }
-    let e = s.durable;
-    zero_durable(e)
+    marks_zero(a) && parts_zero(a)
 }

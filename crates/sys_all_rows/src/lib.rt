@@ -5,99 +5,66 @@
 ghost use Rattle.std.specs.Prelude.{◌≡◌, true, ℕ, ◌≤◌, ◌<◌, length, get_or};
 ghost use Rattle.types.specs.Capacities.{most_actors};
 ghost use Rattle.link_inner.specs.Views.{table_ok};
-ghost use Rattle.sys_all_rows.specs.Views.{hall_of, books_of, Sized, Layable, ActorsLaid, TablesLaid, Stands, Moved};
+ghost use Rattle.sys_moves.specs.Views.{sent_in};
+ghost use Rattle.sys_all_rows.specs.Views.{Layable, ActorsLaid, TablesLaid, Stands, Moved};
 
+use answers::Answer;
 use link_inner::Table;
-use link_rows::{RECORD, ROW};
 use link_table_rows::rows_of;
-use net_rows::Sent;
 use sys_act::{act, seat};
 use sys_actor::Actor;
 use sys_layout::lay_out;
-use types::{Action, Kind, MOST_ACTORS, MOST_ENTRIES, MOST_PENDING, MOST_RULES};
+use sys_rows::{ActorRows, NetRows, TableRows};
+use types::{Action, MOST_ACTORS};
 
 // ---- laid out
 // The first `count` actors. The rows of the others are not looked at.
 pub fn lay_out_actors(
     actors: [Actor; MOST_ACTORS],
     count: usize,
-    lives: &mut [[u64; ROW]; MOST_ACTORS],
-    pends: &mut [[[u64; RECORD]; MOST_PENDING]; MOST_ACTORS],
-    kepts: &mut [[u64; ROW]; MOST_ACTORS],
-    storeds: &mut [[[u64; RECORD]; MOST_PENDING]; MOST_ACTORS],
+    rows: &mut [ActorRows; MOST_ACTORS],
 )
-    requires { (count ≤ most_actors) × Sized (hall_of lives.old pends.old kepts.old storeds.old)
+    requires { (count ≤ most_actors) × (length rows.old ≡ most_actors)
         × ((i : ℕ) → i < count → (d : Actor) → Layable (get_or actors i d)) }
-    ensures { ActorsLaid actors count (hall_of lives.new pends.new kepts.new storeds.new) }
+    ensures { ActorsLaid actors count rows.new }
 {
-    let mut i = 0;
-    while i < count {
-        let a = actors[i];
-        lay_out(
-            a,
-            &mut lives[i],
-            &mut pends[i],
-            &mut kepts[i],
-            &mut storeds[i],
-        );
-        i += 1;
+    for i in 0..count {
+        lay_out(actors[i], &mut rows[i]);
     }
 }
 
 // The first `count` tables, and how many rules each has.
 pub fn lay_out_tables(
-    ts: [Table; MOST_ACTORS],
+    tables: [Table; MOST_ACTORS],
     count: usize,
-    tables: &mut [[[u64; 16]; MOST_RULES]; MOST_ACTORS],
-    rules: &mut [usize; MOST_ACTORS],
+    rows: &mut [TableRows; MOST_ACTORS],
 )
-    requires { (count ≤ most_actors) × (length tables.old ≡ most_actors) × (length rules.old ≡ most_actors)
-        × ((i : ℕ) → i < count → (d : Table) → table_ok (get_or ts i d) ≡ true) }
-    ensures { TablesLaid ts count (books_of tables.new rules.new) }
+    requires { (count ≤ most_actors) × (length rows.old ≡ most_actors)
+        × ((i : ℕ) → i < count → (d : Table) → table_ok (get_or tables i d) ≡ true) }
+    ensures { TablesLaid tables count rows.new }
 {
-    let mut i = 0;
-    while i < count {
-        let t = ts[i];
-        tables[i] = rows_of(t);
-        rules[i] = t.used;
-        i += 1;
+    for i in 0..count {
+        let table = tables[i];
+        rows[i] = TableRows {
+            rows: rows_of(table),
+            used: table.used,
+        };
     }
 }
 
 // ---- an action
 pub fn act_in(
-    cells: &mut [[u64; 4]; MOST_ENTRIES],
-    lives: &mut [[u64; ROW]; MOST_ACTORS],
-    pends: &mut [[[u64; RECORD]; MOST_PENDING]; MOST_ACTORS],
-    kepts: &mut [[u64; ROW]; MOST_ACTORS],
-    storeds: &mut [[[u64; RECORD]; MOST_PENDING]; MOST_ACTORS],
-    tables: &[[[u64; 16]; MOST_RULES]; MOST_ACTORS],
-    rules: &[usize; MOST_ACTORS],
-    kind: Kind,
-    used: usize,
-    len: u64,
+    net: &mut NetRows,
+    actors: &mut [ActorRows; MOST_ACTORS],
+    tables: &[TableRows; MOST_ACTORS],
     count: usize,
     a: Action,
-) -> Sent
-    requires { Stands count kind used len (books_of tables.now rules.now) cells.old (hall_of lives.old pends.old kepts.old storeds.old) }
-    ensures { Moved count a kind used len (books_of tables.now rules.now)
-        cells.old (hall_of lives.old pends.old kepts.old storeds.old)
-        result cells.new (hall_of lives.new pends.new kepts.new storeds.new) }
+) -> Answer
+    requires { Stands count net.old.kind net.old.used net.old.len tables.now net.old.cells actors.old }
+    ensures { Moved count a net.old.kind net.old.used net.old.len tables.now net.old.cells actors.old
+        (sent_in result net.new) net.new.cells actors.new
+        × (net.new.kind ≡ net.old.kind) }
 {
     let k = seat(count, a);
-    let n = rules[k];
-    act(
-        cells,
-        &mut lives[k],
-        &mut pends[k],
-        &mut kepts[k],
-        &mut storeds[k],
-        &tables[k],
-        n,
-        kind,
-        used,
-        len,
-        count,
-        a,
-    )
+    act(net, &mut actors[k], &tables[k], count, a)
 }

@@ -4,7 +4,7 @@
 use answers::Answer;
 use sys_system::System;
 
-// Where the answer of a step is not Done, the system is the one that came.
+// Where a step is refused, the system is the one that came. A struct and no Result: the refusal hands the system back too.
 #[derive(Clone, Copy)]
 pub struct Answered {
     pub answer: Answer,

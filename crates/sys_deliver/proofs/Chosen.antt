@@ -19,8 +19,8 @@ use Rattle.types.specs.declared.Envelope.{Envelope}
 use Rattle.types.specs.declared.Message.{Message}
 use Rattle.types.specs.declared.Message.TheVariants.{Deliver, Ack}
 use Rattle.types.specs.declared.Action.TheVariants as action
-use Rattle.types.specs.declared.LastMessage.{LastMessage}
-use Rattle.answers.specs.declared.Answer.TheVariants.{Ignored, OutOfRange}
+use Rattle.std.specs.Prelude.{Option}
+use Rattle.answers.specs.Answers.{Ignored, OutOfRange}
 use Rattle.rules.specs.Outcome.{Outcome, guard}
 use Rattle.rules.specs.Inner.{reply, ignored}
 use Rattle.rules.specs.Link.{last_taken}
@@ -103,10 +103,10 @@ module _ (kind : Kind) (e : Envelope) (v : Number) (y : Payload) (used n : ℕ) 
 
 -- ---- the whole action
 module _ (kind : Kind) (e : Envelope) (used n : ℕ) (x : Rows) (fine : Fine kind used n x) (rs : List Rule) (count : ℕ) where
-  abbrev o : Around e.dst → LastMessage → Outcome Sys
+  abbrev o : Around e.dst → Option Envelope → Outcome Sys
   o hall last = systems (act (caps_of x.cells) (sys_at e.dst hall kind last used rs x) (action.Deliver e))
 
-  at-seat : (hall : Around e.dst) → length hall.sys.actors ≡ count → (last : LastMessage)
+  at-seat : (hall : Around e.dst) → length hall.sys.actors ≡ count → (last : Option Envelope)
       → o hall last ≡ guard (ltb e.src.0 count) 2 (guard (not (mark (get_or x.live 5 0))) 1 (handed_to kind e e.msg used x rs hall last))
   unfolding actor_of
   at-seat hall size last =
@@ -125,7 +125,7 @@ module _ (kind : Kind) (e : Envelope) (used n : ℕ) (x : Rows) (fine : Fine kin
       (λ hall size last. at-seat hall size last ∙ rw (lt-ltb e.src.0 count h, c))
 
   module _ (h : e.src.0 < count) (c : mark (get_or x.live 5 0) ≡ false) (m : Message) (q : e.msg ≡ m) (r : Sent) (x' : Rows) where
-    reaches : (hall : Around e.dst) → length hall.sys.actors ≡ count → (last : LastMessage) → o hall last
+    reaches : (hall : Around e.dst) → length hall.sys.actors ≡ count → (last : Option Envelope) → o hall last
         ≡ handed_to kind e m used x rs hall last
     unfolding guard
     reaches hall size last =

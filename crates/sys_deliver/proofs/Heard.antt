@@ -18,7 +18,7 @@ use Rattle.types.specs.declared.Rule.{Rule}
 use Rattle.types.specs.declared.Envelope.{Envelope}
 use Rattle.types.specs.declared.Message.{Message}
 use Rattle.types.specs.declared.Message.TheVariants.{Deliver, Ack}
-use Rattle.types.specs.declared.LastMessage.{LastMessage}
+use Rattle.std.specs.Prelude.{Option}
 use Rattle.rules.specs.Outcome.{Outcome, done, refused, bind}
 use Rattle.rules.specs.Inner.{Reply, reply, ignored}
 use Rattle.rules.specs.Network.{Net, on_deliver}
@@ -52,7 +52,7 @@ last-is w p laid s few =
     let d = get_or-drop 8 w s.0 0 in
     taken_at (drop 8 w) (get_or w 4 0) s.0 (λ h. d ∙ sym z ∙ laid.tail.rest s.0 (omega arith) few) ∙ d
 
-module _ (kind : Kind) (e : Envelope) (used : ℕ) (x : Rows) (rs : List Rule) (hall : Around e.dst) (last : LastMessage) where
+module _ (kind : Kind) (e : Envelope) (used : ℕ) (x : Rows) (rs : List Rule) (hall : Around e.dst) (last : Option Envelope) where
   abbrev w : List ℕ
   w = x.live
 

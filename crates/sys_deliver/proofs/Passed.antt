@@ -11,7 +11,7 @@ use Rattle.types.specs.declared.Rule.{Rule}
 use Rattle.types.specs.declared.Envelope.{Envelope}
 use Rattle.types.specs.declared.Message.{Message}
 use Rattle.types.specs.declared.Message.TheVariants.{Ack}
-use Rattle.types.specs.declared.LastMessage.{LastMessage}
+use Rattle.std.specs.Prelude.{Option}
 use Rattle.rules.specs.Outcome.{Outcome, done, refused, bind, Room}
 use Rattle.rules.specs.Network.{Net, send, on_deliver}
 use Rattle.rules.specs.Link.{Send}
@@ -53,7 +53,7 @@ module _ (kind : Kind) (e : Envelope) (v : Number) (used n : ℕ) (x : Rows) (fi
   same-timers rs = refl
 
   -- The outcome with the actor of the rows.
-  as-taking : (hall : Around e.dst) (last : LastMessage) (rs : List Rule) (a : Actor) → a ≡ actor_at rs x
+  as-taking : (hall : Around e.dst) (last : Option Envelope) (rs : List Rule) (a : Actor) → a ≡ actor_at rs x
       → bind (on_deliver e (net_of kind last x.cells used))
       (λ m. run_commands (room_of x.cells) e.dst (Send e.src (Ack v) ∷ []) (holding e.dst hall m a))
       ≡ passed_by kind e v used x hall last rs

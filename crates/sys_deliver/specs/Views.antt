@@ -1,6 +1,6 @@
 -- A message handed to a live actor, and the rule that takes it.
 -- Assumes nothing.
-use Rattle.std.specs.Prelude.{ℕ, Bool, ◌||◌, List, leb}
+use Rattle.std.specs.Prelude.{ℕ, Bool, ◌||◌, List, leb, Option}
 use Rattle.lists.specs.Lists.{choose}
 use Rattle.types.specs.Capacities.{most_pending}
 use Rattle.types.specs.declared.Id.{Id}
@@ -8,7 +8,6 @@ use Rattle.types.specs.declared.Kind.{Kind}
 use Rattle.types.specs.declared.Rule.{Rule}
 use Rattle.types.specs.declared.Envelope.{Envelope}
 use Rattle.types.specs.declared.Message.{Message}
-use Rattle.types.specs.declared.LastMessage.{LastMessage}
 use Rattle.rules.specs.Outcome.{Outcome, bind}
 use Rattle.rules.specs.Inner.{reply, ignored}
 use Rattle.rules.specs.Network.{on_deliver}
@@ -21,7 +20,7 @@ use Rattle.sys_reacts.specs.Views.{limits_of}
 use Rattle.sys_moves.specs.Views.{Rows, actor_at}
 
 -- Out of the network, to the link's handler, whose commands run with its link in place.
-abbrev pub handed_to : Kind → (e : Envelope) → Message → ℕ → Rows → List Rule → Around e.dst → LastMessage → Outcome Sys
+abbrev pub handed_to : Kind → (e : Envelope) → Message → ℕ → Rows → List Rule → Around e.dst → Option Envelope → Outcome Sys
 handed_to kind e m used x rs hall last = bind (on_deliver e (net_of kind last x.cells used)) (λ n.
     bind (on_msg (limits_of most_pending) e.dst rs (actor_at rs x).link e.src m) (λ d.
     run_commands (room_of x.cells) e.dst d.commands (holding e.dst hall n (with_link d.link (actor_at rs x)))))

@@ -10,8 +10,8 @@ use Rattle.link_direct.proofs.Laws.{sends-cons}
 use Rattle.types.specs.Capacities.{most_copies}
 use Rattle.types.specs.declared.Id.{Id}
 use Rattle.types.specs.declared.Kind.{Kind}
-use Rattle.answers.specs.declared.Answer.TheVariants.{Done}
-use Rattle.types.specs.declared.LastMessage.{LastMessage}
+use Rattle.answers.specs.Answers.{Done}
+use Rattle.std.specs.Prelude.{Option}
 use Rattle.types.specs.declared.InnerCommand.{InnerCommand}
 use Rattle.rules.specs.Outcome.{Room}
 use Rattle.rules.specs.Link.{Command}
@@ -23,6 +23,7 @@ use Rattle.answers.specs.Answers.{is_done}
 use Rattle.sys_emits.specs.declared.Emitted.{Emitted}
 use Rattle.sys_emits.specs.Views.{sys_in, Ran, Went}
 use Rattle.sys_emits.proofs.Laws.{not-both}
+use Rattle.types.specs.declared.Envelope.{Envelope}
 
 room-same : (cs cs' : List (List ℕ)) → length cs' ≡ length cs → room_of cs' ≡ room_of cs
 room-same cs cs' e = λ j. record { entries = e j; copies = most_copies }
@@ -32,7 +33,7 @@ module _ (kind : Kind) (me : Id) (cmds : List Command) (cs₀ : List (List ℕ))
     pub room : length cs ≡ length cs₀
     pub ready : NetReady kind cs u l
     pub number : m + sends rest ≤ 18446744073709551615
-    pub goal : (hall : Around me) (last : LastMessage) (a : Actor) → run_commands (room_of cs₀) me cmds (sys_in me hall kind last cs₀ used w₀ a)
+    pub goal : (hall : Around me) (last : Option Envelope) (a : Actor) → run_commands (room_of cs₀) me cmds (sys_in me hall kind last cs₀ used w₀ a)
         ≡ run_commands (room_of cs₀) me (take k (asked m rest)) (sys_in me hall kind last cs u w a)
 
   module _ (cs : List (List ℕ)) (u l w m k : ℕ) (rest : List InnerCommand) (on : Along cs u l w m k rest) where

@@ -11,9 +11,8 @@ use Rattle.types.specs.declared.Id.{Id}
 use Rattle.types.specs.declared.Payload.{Payload}
 use Rattle.types.specs.declared.Envelope.{Envelope}
 use Rattle.types.specs.declared.Kind.{Kind}
-use Rattle.answers.specs.declared.Answer.TheVariants.{Done, NetworkFull}
-use Rattle.types.specs.declared.LastMessage.{LastMessage}
-use Rattle.types.specs.declared.LastMessage.TheVariants.{Nothing}
+use Rattle.answers.specs.Answers.{Done, NetworkFull}
+use Rattle.std.specs.Prelude.{Option, None}
 use Rattle.types.specs.declared.Message.TheVariants.{Deliver}
 use Rattle.types.specs.declared.InnerCommand.{InnerCommand}
 use Rattle.types.specs.declared.InnerCommand.TheVariants as inner
@@ -41,7 +40,7 @@ pub not-both : (b : Bool) → b ≡ true → b ≡ false → ⊥
 not-both b p q = let z : ◌≡◌ {A = ℕ} 0 1 = cc in omega arith
 
 -- ---- one send, in cells
-module _ (kind : Kind) (last : LastMessage) (cs : List (List ℕ)) (used n : ℕ) (e : Envelope) (s : Sent) (cs' : List (List ℕ))
+module _ (kind : Kind) (last : Option Envelope) (cs : List (List ℕ)) (used n : ℕ) (e : Envelope) (s : Sent) (cs' : List (List ℕ))
     (ch : Changed cs used n (send (room_of cs) e (net_of kind last cs used)) s cs') where
   abbrev m : Net
   m = net_of kind last cs used
@@ -73,7 +72,7 @@ module _ (kind : Kind) (last : LastMessage) (cs : List (List ℕ)) (used n : ℕ
 
 -- ---- inner commands
 module _ (kind : Kind) (me : Id) (cs : List (List ℕ)) (used w next left : ℕ) (some : 0 < left) where
-  pub set_on : (t w' : ℕ) → listed w' ≡ set_timer t (listed w) → (hall : Around me) (last : LastMessage) (a : Actor) (os : List InnerCommand)
+  pub set_on : (t w' : ℕ) → listed w' ≡ set_timer t (listed w) → (hall : Around me) (last : Option Envelope) (a : Actor) (os : List InnerCommand)
       → run_commands (room_of cs) me (take left (asked next (inner.SetTimer t ∷ os))) (sys_in me hall kind last cs used w a)
       ≡ run_commands (room_of cs) me (take (left - 1) (asked next os)) (sys_in me hall kind last cs used w' a)
   unfolding asked with_timers
@@ -83,7 +82,7 @@ module _ (kind : Kind) (me : Id) (cs : List (List ℕ)) (used w next left : ℕ)
       ∙ ap (λ (ts : List ℕ). run_commands (room_of cs) me (take (left - 1) (asked next os)) (holding me hall (net_of kind last cs used) (with_timers ts a)))
       (sym e)
 
-  pub cancel-on : (t w' : ℕ) → listed w' ≡ cancel_timer t (listed w) → (hall : Around me) (last : LastMessage) (a : Actor) (os : List InnerCommand)
+  pub cancel-on : (t w' : ℕ) → listed w' ≡ cancel_timer t (listed w) → (hall : Around me) (last : Option Envelope) (a : Actor) (os : List InnerCommand)
       → run_commands (room_of cs) me (take left (asked next (inner.CancelTimer t ∷ os))) (sys_in me hall kind last cs used w a)
       ≡ run_commands (room_of cs) me (take (left - 1) (asked next os)) (sys_in me hall kind last cs used w' a)
   unfolding asked with_timers
@@ -93,22 +92,22 @@ module _ (kind : Kind) (me : Id) (cs : List (List ℕ)) (used w next left : ℕ)
       ∙ ap (λ (ts : List ℕ). run_commands (room_of cs) me (take (left - 1) (asked next os)) (holding me hall (net_of kind last cs used) (with_timers ts a)))
       (sym e)
 
-  pub save-on : (v : ℕ) (hall : Around me) (last : LastMessage) (a : Actor) (os : List InnerCommand)
+  pub save-on : (v : ℕ) (hall : Around me) (last : Option Envelope) (a : Actor) (os : List InnerCommand)
       → run_commands (room_of cs) me (take left (asked next (inner.Save v ∷ os))) (sys_in me hall kind last cs used w a)
       ≡ run_commands (room_of cs) me (take left (asked next os)) (sys_in me hall kind last cs used w a)
   unfolding asked
   save-on v hall last a os = refl
 
   module _ (d : Id) (p : Payload) (n : ℕ) (s : Sent) (cs' : List (List ℕ))
-      (ch : (last : LastMessage) → Changed cs used n (send (room_of cs) (record { src = me; dst = d; msg = Deliver (record { 0 = next }) p })
+      (ch : (last : Option Envelope) → Changed cs used n (send (room_of cs) (record { src = me; dst = d; msg = Deliver (record { 0 = next }) p })
       (net_of kind last cs used)) s cs') where
-    pub send-on : is_done s.answer ≡ true → (hall : Around me) (last : LastMessage) (a : Actor) (os : List InnerCommand)
+    pub send-on : is_done s.answer ≡ true → (hall : Around me) (last : Option Envelope) (a : Actor) (os : List InnerCommand)
         → run_commands (room_of cs) me (take left (asked next (inner.Send d p ∷ os))) (sys_in me hall kind last cs used w a)
         ≡ run_commands (room_of cs) me (take (left - 1) (asked (next + 1) os)) (sys_in me hall kind last cs' s.used w a)
     unfolding run_commands asked with_net
     send-on h hall last a os = rw (take-first left _ (asked (suc next) os) some, add-one next) (sent-on kind last cs used n _ s cs' (ch last) _ h)
 
-    pub send-stops : is_done s.answer ≡ false → (hall : Around me) (last : LastMessage) (a : Actor) (os : List InnerCommand)
+    pub send-stops : is_done s.answer ≡ false → (hall : Around me) (last : Option Envelope) (a : Actor) (os : List InnerCommand)
         → run_commands (room_of cs) me (take left (asked next (inner.Send d p ∷ os))) (sys_in me hall kind last cs used w a) ≡ refused 8
     unfolding run_commands asked with_net
     send-stops h hall last a os = rw (take-first left _ (asked (suc next) os) some) (sent-stops kind last cs used n _ s cs' (ch last) _ h)
@@ -152,14 +151,14 @@ module _ (kind : Kind) (me : Id) (x : InnerCommand) (cs : List (List ℕ)) (used
   })
 
   pub went-send : (d : Id) (p : Payload) → x ≡ inner.Send d p → (s : Sent) (cs' : List (List ℕ))
-      → ((last : LastMessage) → Changed cs used n (send (room_of cs) (record { src = me; dst = d; msg = Deliver (record { 0 = next }) p })
+      → ((last : Option Envelope) → Changed cs used n (send (room_of cs) (record { src = me; dst = d; msg = Deliver (record { 0 = next }) p })
       (net_of kind last cs used)) s cs')
       → Went kind me x cs used w next left (record { answer = s.answer; used = s.used; len = s.len; timers = w; next = next + 1; left = left - 1 }) cs'
   unfolding sends
   went-send d p q s cs' ch = rw q (record {
-    room = (ch Nothing).room;
-    full = sent-full kind Nothing cs used n _ s cs' (ch Nothing);
-    ready = λ h. send-ready kind Nothing cs used n ready s cs' _ (ch Nothing);
+    room = (ch None).room;
+    full = sent-full kind None cs used n _ s cs' (ch None);
+    ready = λ h. send-ready kind None cs used n ready s cs' _ (ch None);
     number = λ h. omega arith;
     onward = send-on kind me cs used w next left some d p n s cs' ch;
     stops = send-stops kind me cs used w next left some d p n s cs' ch;

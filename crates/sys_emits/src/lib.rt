@@ -44,11 +44,11 @@ fn emit_one(
             let h = Timers(timers).set(t);
             let w = h.timers;
             Emitted {
-                answer: Answer::Done,
-                used: used,
-                len: len,
+                answer: Ok(()),
+                used,
+                len,
                 timers: w.0,
-                next: next,
+                next,
                 left: left - 1,
             }
         }
@@ -56,21 +56,21 @@ fn emit_one(
             let h = Timers(timers).cancel(t);
             let w = h.timers;
             Emitted {
-                answer: Answer::Done,
-                used: used,
-                len: len,
+                answer: Ok(()),
+                used,
+                len,
                 timers: w.0,
-                next: next,
+                next,
                 left: left - 1,
             }
         }
         InnerCommand::Save(_) => Emitted {
-            answer: Answer::Done,
-            used: used,
-            len: len,
-            timers: timers,
-            next: next,
-            left: left,
+            answer: Ok(()),
+            used,
+            len,
+            timers,
+            next,
+            left,
         },
         InnerCommand::Send(d, p) => {
             let e = Envelope {
@@ -84,7 +84,7 @@ fn emit_one(
                 answer: a,
                 used: s.used,
                 len: s.len,
-                timers: timers,
+                timers,
                 next: next + 1,
                 left: left - 1,
             }
@@ -119,7 +119,7 @@ pub fn emit(
     while i < n {
         if k == 0 {
             return Emitted {
-                answer: Answer::Done,
+                answer: Ok(()),
                 used: u,
                 len: l,
                 timers: w,
@@ -141,7 +141,7 @@ pub fn emit(
         i += 1;
     }
     Emitted {
-        answer: Answer::Done,
+        answer: Ok(()),
         used: u,
         len: l,
         timers: w,

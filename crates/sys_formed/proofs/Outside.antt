@@ -2,13 +2,13 @@
 -- Assumes nothing.
 use mathlib.Core.Bool.{false}
 use mathlib.Core.List.{[]}
-use Rattle.types.specs.declared.Storage.TheVariants.{Nothing}
+use Rattle.std.specs.Prelude.{None}
 use Rattle.link_durable.specs.declared.Durable.{Durable}
 use Rattle.link_inner.specs.declared.Table.{Table}
 use Rattle.sys_actor.specs.declared.Actor.{Actor}
 
 abbrev no-durable : Durable
-no-durable = record { next = record { 0 = 0 }; pending = record { records = []; used = 0 }; taken = record { last = []; used = 0 }; inner = Nothing }
+no-durable = record { next = record { 0 = 0 }; pending = record { places = []; used = 0 }; taken = record { places = []; used = 0 }; inner = None }
 
 abbrev pub no-actor : Actor
 no-actor = record {

@@ -1,11 +1,11 @@
 // Whether a system is laid out and well formed, asked of any content that the struct can hold.
 #![tactic(auto)]
 
-ghost use Rattle.std.specs.Prelude.{◌≡◌, true, ◌≤◌, take, drop};
-ghost use Rattle.types.specs.Capacities.{most_actors};
+ghost use Rattle.std.specs.Prelude.{◌≡◌, true, ◌&&◌};
 ghost use Rattle.lists.specs.Lists.{all};
+ghost use Rattle.link_inner.specs.Views.{table_ok};
+ghost use Rattle.sys_actor.specs.Views.{actor_fine, blank_actor};
 ghost use Rattle.sys_system.specs.Views.{SystemLaid, blank_table, system_fine};
-ghost use Rattle.sys_formed.specs.Views.{actor_passes, table_passes};
 
 use link_inner::{Table, sound_table};
 use net_formed::net_ok;
@@ -13,72 +13,53 @@ use sys_actor::{Actor, actor_ok, blank_actor};
 use sys_system::System;
 use types::MOST_ACTORS;
 
-// A place for an actor: zero where it is free.
-fn actor_passes(free: bool, count: usize, a: Actor) -> bool
-    ensures { result ≡ actor_passes free count a }
-{
-    if free {
-        return blank_actor(a);
-    }
-    actor_ok(a, count)
-}
-
-// The places from one up to another: free, or used.
-fn actors_pass(
-    actors: [Actor; MOST_ACTORS],
-    free: bool,
-    count: usize,
-    from: usize,
-    to: usize,
-) -> bool
-    requires { to ≤ most_actors }
-    ensures { result ≡ all (actor_passes free count) (drop from (take to actors)) }
-{
-    let mut i = from;
-    while i < to {
-        let here = actors[i];
-        if !actor_passes(free, count, here) {
-            return false;
-        }
-        i += 1;
-    }
-    true
-}
-
 // A table with no rules is sound where it is laid out.
 fn blank_table(t: Table) -> bool
     ensures { result ≡ blank_table t }
 {
-    if t.used != 0 {
-        return false;
-    }
-    sound_table(t)
+    t.used == 0 && sound_table(t)
 }
 
-// A place for a table: zero where it is free.
-fn table_passes(free: bool, t: Table) -> bool
-    ensures { result ≡ table_passes free t }
+// Tables in use. A start asks it too.
+pub fn tables_sound(tables: &[Table]) -> bool
+    ensures { result ≡ all table_ok tables.now }
 {
-    if free {
-        return blank_table(t);
-    }
-    sound_table(t)
+    tables.iter().all(|t| sound_table(*t))
 }
 
-// The places from one up to another: free, or used. A start asks it too.
-pub fn tables_pass(tables: [Table; MOST_ACTORS], free: bool, from: usize, to: usize) -> bool
-    requires { to ≤ most_actors }
-    ensures { result ≡ all (table_passes free) (drop from (take to tables)) }
+// Tables that are not used.
+pub fn tables_blank(tables: &[Table]) -> bool
+    ensures { result ≡ all blank_table tables.now }
 {
-    let mut i = from;
-    while i < to {
-        let here = tables[i];
-        if !table_passes(free, here) {
-            return false;
-        }
-        i += 1;
-    }
-    true
+    tables.iter().all(|t| blank_table(*t))
+}
+
+// Actors in use, of so many.
+fn actors_ok(actors: &[Actor], count: usize) -> bool
+    ensures { result ≡ all (actor_fine count) actors.now }
+{
+    actors.iter().all(|a| actor_ok(*a, count))
+}
+
+// Actors that are not used.
+fn actors_blank(actors: &[Actor]) -> bool
+    ensures { result ≡ all blank_actor actors.now }
+{
+    actors.iter().all(|a| blank_actor(*a))
+}
+
+// The places in use.
+fn used_ok(actors: &[Actor], tables: &[Table], count: usize) -> bool
+    ensures { result ≡ (all (actor_fine count) actors.now && all table_ok tables.now) }
+{
+    actors_ok(actors, count) && tables_sound(tables)
+}
+
+// The places that are free.
+fn free_ok(actors: &[Actor], tables: &[Table]) -> bool
+    ensures { result ≡ (all blank_actor actors.now && all blank_table tables.now) }
+{
+    actors_blank(actors) && tables_blank(tables)
 }
 
 // A system that passes is laid out.
@@ -87,26 +68,10 @@ pub fn well_formed(s: System) -> bool
     ensures laid { result ≡ true → SystemLaid s }
 {
     let count = s.count;
-    let network = s.network;
-    let actors = s.actors;
-    let tables = s.tables;
-    if count < 1 {
+    if count < 1 || MOST_ACTORS < count || !net_ok(s.network, count) {
         return false;
     }
-    if MOST_ACTORS < count {
-        return false;
-    }
-    if !net_ok(network, count) {
-        return false;
-    }
-    if !actors_pass(actors, false, count, 0, count) {
-        return false;
-    }
-    if !tables_pass(tables, false, 0, count) {
-        return false;
-    }
-    if !actors_pass(actors, true, count, count, MOST_ACTORS) {
-        return false;
-    }
-    tables_pass(tables, true, count, MOST_ACTORS)
+    let (actors, free_actors) = s.actors.split_at(count);
+    let (tables, free_tables) = s.tables.split_at(count);
+    used_ok(actors, tables, count) && free_ok(free_actors, free_tables)
 }

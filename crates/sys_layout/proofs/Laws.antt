@@ -4,7 +4,7 @@ use Prim.Native.Nat.{ℕ, zero, suc, ◌+◌, ◌≤◌, ◌<◌}
 use native.Mathlib.Omega.{arith}
 use mathlib.Core.Path.{◌≡◌, refl, sym, ap, ◌∙◌}
 use mathlib.Core.Bool.{Bool, true, false}
-use mathlib.Core.Option.{none, some}
+use Rattle.std.specs.Prelude.{Some, None}
 use mathlib.Core.List.{List, []}
 use lib.ListN.{length, get_or, set}
 use Rattle.lists.specs.Lists.{choose}
@@ -32,7 +32,7 @@ mark-bit : (b : Bool) → mark (bit b) ≡ b
 mark-bit true = refl
 mark-bit false = refl
 
-stored-bit : (b : Bool) (d : rules.Durable) → stored_in (bit b) d ≡ choose b (some d) none
+stored-bit : (b : Bool) (d : rules.Durable) → stored_in (bit b) d ≡ choose b (Some d) None
 unfolding stored_in choose
 stored-bit true d = refl
 stored-bit false d = refl
@@ -91,13 +91,13 @@ module _ (a : Actor) where
       let c = mark-bit a.crashed in
       let v = rows-view d (bit a.crashed) a.timers.0 a.link.state in
       let s = stored-bit a.stored.some (durable_in kept (records_of e))
-      ∙ ap (λ (x : rules.Durable). choose a.stored.some (some x) none) (rows-view e (bit a.stored.some) 0 0) in
+      ∙ ap (λ (x : rules.Durable). choose a.stored.some (Some x) None) (rows-view e (bit a.stored.some) 0 0) in
       λ j. record { rules = rs; crashed = c j; timers = listed a.timers.0; link = record { durable = v j; state = a.link.state }; storage = s j }
 
   module _ (l1 : durable_laid a.link.durable ≡ true) (l2 : stored_laid a.stored ≡ true) (hs : a.link.state ≤ last_state)
       (ht : a.timers.0 < 4294967296) (hv : value_of a.link.durable.inner < 4294967296) (hw : value_of a.stored.durable.inner < 4294967296)
       (f1 : Sendable (records_of d) (length d.pending)) (f2 : Sendable (records_of e) (length e.pending)) where
-    pub laid_out : LaidOut a live (records_of d) kept (records_of e)
+    pub laid_out : LaidOut a (record { live = live; pend = records_of d; kept = kept; stored = records_of e })
     laid_out =
         let m = durable-small a.link.durable l1 in
         let n = durable-small a.stored.durable (stored-parts a.stored l2) in
@@ -117,12 +117,12 @@ readable w p laid = record {
   head = laid.head;
 }
 
-pub stored-none : (k : List ℕ) (q : List (List ℕ)) (s : Stored) → get_or k 5 0 ≡ 0 → s ≡ stored_as none
+pub stored-none : (k : List ℕ) (q : List (List ℕ)) (s : Stored) → get_or k 5 0 ≡ 0 → s ≡ stored_as None
     → s ≡ stored_as (stored_in (get_or k 5 0) (durable_in k q))
 unfolding stored_in
 stored-none k q s e f = f ∙ ap (λ (n : ℕ). stored_as (stored_in n (durable_in k q))) (sym e)
 
-some_stored : (n : ℕ) (d : rules.Durable) → (n ≡ 0 → ⊥) → some d ≡ stored_in n d
+some_stored : (n : ℕ) (d : rules.Durable) → (n ≡ 0 → ⊥) → Some d ≡ stored_in n d
 unfolding stored_in
 some_stored zero d h = absurd (h refl)
 some_stored (suc n) d h = refl

@@ -8,8 +8,8 @@ use lib.ListN.{length}
 use Rattle.types.specs.declared.Id.{Id}
 use Rattle.types.specs.declared.Kind.{Kind}
 use Rattle.types.specs.declared.Rule.{Rule}
-use Rattle.types.specs.declared.LastMessage.{LastMessage}
-use Rattle.answers.specs.declared.Answer.{Answer}
+use Rattle.std.specs.Prelude.{Option}
+use Rattle.answers.specs.Answers.{Answer}
 use Rattle.answers.specs.Answers.{answer_number, is_done}
 use Rattle.rules.specs.Outcome.{Outcome, refused}
 use Rattle.rules.specs.System.{Sys}
@@ -17,13 +17,14 @@ use Rattle.net_rows.specs.declared.Sent.{Sent}
 use Rattle.sys_seat.specs.Seat.{Around}
 use Rattle.sys_emits.proofs.Laws.{not-both}
 use Rattle.sys_moves.specs.Views.{Rows, Fine, Acted, Ended}
+use Rattle.types.specs.declared.Envelope.{Envelope}
 
-module _ (me : Id) (count : ℕ) (rs : List Rule) (o : Around me → LastMessage → Outcome Sys) (after : LastMessage → LastMessage) (kind : Kind)
+module _ (me : Id) (count : ℕ) (rs : List Rule) (o : Around me → Option Envelope → Outcome Sys) (after : Option Envelope → Option Envelope) (kind : Kind)
     (used n : ℕ)
     (x : Rows) where
   -- By a step whose outcome is the same.
-  pub ended_by : (o' : Around me → LastMessage → List Rule → Outcome Sys) (r : Sent) (x' : Rows) → Acted me o' after kind used n x r x'
-      → ((hall : Around me) → length hall.sys.actors ≡ count → (last : LastMessage) → o hall last ≡ o' hall last rs)
+  pub ended_by : (o' : Around me → Option Envelope → List Rule → Outcome Sys) (r : Sent) (x' : Rows) → Acted me o' after kind used n x r x'
+      → ((hall : Around me) → length hall.sys.actors ≡ count → (last : Option Envelope) → o hall last ≡ o' hall last rs)
       → Ended me count rs o after kind used n x r x'
   ended_by o' r x' a e = record {
     fine = a.fine;
@@ -34,7 +35,7 @@ module _ (me : Id) (count : ℕ) (rs : List Rule) (o : Around me → LastMessage
 
   -- With nothing done: the refusal is that of the rules.
   pub ended-refused : Fine kind used n x → (why : Answer) → is_done why ≡ false
-      → ((hall : Around me) → length hall.sys.actors ≡ count → (last : LastMessage) → o hall last ≡ refused (answer_number why))
+      → ((hall : Around me) → length hall.sys.actors ≡ count → (last : Option Envelope) → o hall last ≡ refused (answer_number why))
       → Ended me count rs o after kind used n x (record { answer = why; used = used; len = n }) x
   ended-refused fine why f e = record {
     fine = fine;

@@ -12,8 +12,8 @@ use Rattle.types.specs.Capacities.{most_pending, most_commands, most_told}
 use Rattle.types.specs.declared.Id.{Id}
 use Rattle.types.specs.declared.Kind.{Kind}
 use Rattle.types.specs.declared.Rule.{Rule}
-use Rattle.answers.specs.declared.Answer.{Answer}
-use Rattle.types.specs.declared.LastMessage.{LastMessage}
+use Rattle.answers.specs.Answers.{Answer}
+use Rattle.std.specs.Prelude.{Option}
 use Rattle.types.specs.declared.InnerCommand.{InnerCommand}
 use Rattle.types.specs.declared.InnerCommand.TheVariants as inner
 use Rattle.answers.specs.Answers.{answer_of}
@@ -38,6 +38,7 @@ use Rattle.sys_reacts.proofs.Laws.{goes_on, refuses}
 use Rattle.sys_rows.specs.Rows.{Settled, Kept}
 use Rattle.sys_rows.proofs.Laws.{as_settled, as-stored, stored-laid}
 use Rattle.sys_moves.specs.Views.{Rows, actor_with, running, reacting, Decided, Fine, Acted}
+use Rattle.types.specs.declared.Envelope.{Envelope}
 
 -- ---- the durable part's numbers and places
 next-is : (w : List ℕ) (p : List (List ℕ)) → (durable_in w p).next.0 ≡ get_or w 0 0
@@ -88,7 +89,7 @@ module _ (me : Id) (kind : Kind) (os : List InnerCommand) (t s used n : ℕ) (x 
   places : length d.pending ≡ get_or w 1 0
   places = let a = fine.live.places in let b = fine.live.pending in places-are w x.pend (omega arith)
 
-  abbrev o : Around me → LastMessage → List Rule → Outcome Sys
+  abbrev o : Around me → Option Envelope → List Rule → Outcome Sys
   o = reacting me kind os t s used x
 
   -- The actor before its commands run.
@@ -130,14 +131,14 @@ module _ (me : Id) (kind : Kind) (os : List InnerCommand) (t s used n : ℕ) (x 
     unfolding front_of
     all-run = let z = asked-few (get_or w 0 0) os in take_all most_told (asked (get_or w 0 0) os) (omega arith)
 
-    ends : (hall : Around me) (last : LastMessage) (rs : List Rule)
+    ends : (hall : Around me) (last : Option Envelope) (rs : List Rule)
         → o hall last rs ≡ run_commands (room_of x.cells) me (asked (get_or w 0 0) os ++ more) (sys_in me hall kind last x.cells used t (b rs))
     unfolding durable_in with_timers
     ends hall last rs = outputs me d os most_pending nums (let a = places in omega arith) _
         (λ e cmds. running me hall cmds (net_of kind last x.cells used) rs t e s x) (λ a. refl)
 
     -- The inner actor's commands first, then what is saved.
-    split : (hall : Around me) (last : LastMessage) (rs : List Rule) (y : Outcome Sys)
+    split : (hall : Around me) (last : Option Envelope) (rs : List Rule) (y : Outcome Sys)
         → run_commands (room_of x.cells) me (take most_told (front_of source first.Nothing ++ asked (get_or w 0 0) os))
         (sys_in me hall kind last x.cells used t (b rs)) ≡ y
         → o hall last rs ≡ bind y (run_commands (room_of x.cells) me more)
@@ -160,7 +161,7 @@ module _ (me : Id) (kind : Kind) (os : List InnerCommand) (t s used n : ℕ) (x 
         }
 
     module _ (t1 : is_done r.answer ≡ true) (w' : List ℕ) (p' : List (List ℕ)) (put : Settled (noted os d) r.timers s w w' p') where
-      ran : (hall : Around me) (last : LastMessage) (rs : List Rule)
+      ran : (hall : Around me) (last : Option Envelope) (rs : List Rule)
           → o hall last rs ≡ run_commands (room_of x.cells) me more (sys_in me hall kind last cs' r.used r.timers (b rs))
       unfolding bind
       ran hall last rs = split hall last rs _ (safe.runs t1 hall last (b rs))

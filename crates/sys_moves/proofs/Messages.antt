@@ -12,10 +12,9 @@ use Rattle.types.specs.declared.Number.{Number}
 use Rattle.types.specs.declared.Kind.{Kind}
 use Rattle.types.specs.declared.Rule.{Rule}
 use Rattle.types.specs.declared.Envelope.{Envelope}
-use Rattle.types.specs.declared.LastMessage.{LastMessage}
-use Rattle.types.specs.declared.LastMessage.TheVariants as last
+use Rattle.std.specs.Prelude.{Option, None}
 use Rattle.types.specs.declared.Message.TheVariants.{Ack}
-use Rattle.answers.specs.declared.Answer.{Answer}
+use Rattle.answers.specs.Answers.{Answer}
 use Rattle.answers.specs.Answers.{answer_of, answer_number, is_done}
 use Rattle.rules.specs.Outcome.{Outcome, done, refused, bind, guard}
 use Rattle.rules.specs.Network.{Net, delivering, on_deliver}
@@ -39,15 +38,15 @@ use Rattle.sys_moves.specs.Views.{Rows, running, acked_in, Fine, Acted}
 
 -- ---- an Ack
 module _ (kind : Kind) (e : Envelope) (v : Number) (x : Rows) (used n : ℕ) (fine : Fine kind used n x) (s : Sent) (cs' : List (List ℕ))
-    (ch : (last : LastMessage) → Changed x.cells used n (on_deliver e (net_of kind last x.cells used)) s cs') where
-  abbrev o : Around e.dst → LastMessage → List Rule → Outcome Sys
+    (ch : (last : Option Envelope) → Changed x.cells used n (on_deliver e (net_of kind last x.cells used)) s cs') where
+  abbrev o : Around e.dst → Option Envelope → List Rule → Outcome Sys
   o = acked_in kind e v used x
 
   abbrev d : Durable
   d = acked v (durable_in x.live x.pend)
 
   net-then : NetReady kind cs' s.used s.len
-  net-then = deliver-ready kind last.Nothing x.cells used n fine.net s cs' e (ch last.Nothing)
+  net-then = deliver-ready kind None x.cells used n fine.net s cs' e (ch None)
 
   abbrev then : Around e.dst → List Rule → Net → Outcome Sys
   then = λ hall rs m. running e.dst hall (Save d ∷ []) m rs (get_or x.live 6 0) d (get_or x.live 7 0) x
@@ -58,10 +57,10 @@ module _ (kind : Kind) (e : Envelope) (v : Number) (x : Rows) (used n : ℕ) (fi
   ack-absent f =
       let q = there-false kind e x.cells used n s cs' ch f in
       let z =
-      (subst (λ (b : Bool). Changed x.cells used n (guard b 3 (done (delivering e (net_of kind last.Nothing x.cells used)))) s cs') q
-      (subst (λ (y : Outcome Net). Changed x.cells used n y s cs') (deliver-is kind e x.cells used n last.Nothing) (ch last.Nothing))).left in
+      (subst (λ (b : Bool). Changed x.cells used n (guard b 3 (done (delivering e (net_of kind None x.cells used)))) s cs') q
+      (subst (λ (y : Outcome Net). Changed x.cells used n y s cs') (deliver-is kind e x.cells used n None) (ch None))).left in
       record {
-        fine = record { net = net-then; room = (ch last.Nothing).room ∙ fine.room; live = fine.live; kept = fine.kept };
+        fine = record { net = net-then; room = (ch None).room ∙ fine.room; live = fine.live; kept = fine.kept };
         runs = λ h. absurd (not-both (is_done s.answer) h f);
         stops = λ h hall last rs.
             ap (λ (y : Outcome Net). bind y (then hall rs))
@@ -85,7 +84,7 @@ module _ (kind : Kind) (e : Envelope) (v : Number) (x : Rows) (used n : ℕ) (fi
     ack-done = record {
       fine = record {
         net = net-then;
-        room = (ch last.Nothing).room ∙ fine.room;
+        room = (ch None).room ∙ fine.room;
         live = put.laid;
         kept = stored-laid w' p' k' q' kept put.laid;
       };

@@ -9,9 +9,9 @@ use borrow.Author.Tests.{eqb-true}
 use Rattle.types.specs.declared.Id.{Id}
 use Rattle.types.specs.declared.Kind.{Kind}
 use Rattle.types.specs.declared.Rule.{Rule}
-use Rattle.types.specs.declared.LastMessage.{LastMessage}
-use Rattle.answers.specs.declared.Answer.{Answer}
-use Rattle.answers.specs.declared.Answer.TheVariants.{Done}
+use Rattle.std.specs.Prelude.{Option}
+use Rattle.answers.specs.Answers.{Answer}
+use Rattle.answers.specs.Answers.{Done}
 use Rattle.answers.specs.Answers.{answer_number, is_done}
 use Rattle.answers.proofs.Numbers.{number-inj}
 use Rattle.rules.specs.Outcome.{Outcome, done, refused}
@@ -24,6 +24,7 @@ use Rattle.sys_seat.specs.Seat.{Around}
 use Rattle.sys_seat.proofs.Seats.{held}
 use Rattle.sys_reacts.proofs.Deliver.{never}
 use Rattle.sys_moves.specs.Views.{Rows, actor_at, sys_at, Ended}
+use Rattle.types.specs.declared.Envelope.{Envelope}
 
 -- ---- two outcomes
 pub same-done : (o : Outcome Sys) (p q : Sys) → o ≡ done p → o ≡ done q → p ≡ q
@@ -48,7 +49,7 @@ module _ (o : Outcome Sys) (a b : Answer) (p q : Sys) (pa : is_done a ≡ true �
       go false false h k = number-inj a b (same-refused o _ _ (ra h) (rb k))
 
 -- Cells that are one network are counted alike.
-pub same-counts : (kind : Kind) (last : LastMessage) (cs ds : List (List ℕ)) (used n full m : ℕ) → NetReady kind cs used n → NetReady kind ds full m
+pub same-counts : (kind : Kind) (last : Option Envelope) (cs ds : List (List ℕ)) (used n full m : ℕ) → NetReady kind cs used n → NetReady kind ds full m
     → net_of kind last cs used ≡ net_of kind last ds full → (used ≡ full) × (n ≡ m)
 same-counts kind last cs ds used n full m h k e =
     let q = ap (λ (w : Net). w.entries) e in (
@@ -57,7 +58,7 @@ same-counts kind last cs ds used n full m h k e =
     )
 
 -- ---- what a step ends with
-module _ (me : Id) (count : ℕ) (rs : List Rule) (o : Around me → LastMessage → Outcome Sys) (after : LastMessage → LastMessage) (kind : Kind)
+module _ (me : Id) (count : ℕ) (rs : List Rule) (o : Around me → Option Envelope → Outcome Sys) (after : Option Envelope → Option Envelope) (kind : Kind)
     (used n : ℕ) (x : Rows) (r s : Sent) (y z : Rows) (h : Ended me count rs o after kind used n x r y) (k : Ended me count rs o after kind used n x s z)
     (hall : Around me) (size : length hall.sys.actors ≡ count) where
   pub one_answer : r.answer ≡ s.answer
@@ -67,7 +68,7 @@ module _ (me : Id) (count : ℕ) (rs : List Rule) (o : Around me → LastMessage
       (λ t. k.runs t hall size last) (λ f. k.stops f hall size last)
 
   -- Done: the rows are one network and one actor.
-  module _ (t : is_done r.answer ≡ true) (last : LastMessage) where
+  module _ (t : is_done r.answer ≡ true) (last : Option Envelope) where
     one-system : sys_at me hall kind (after last) r.used rs y ≡ sys_at me hall kind (after last) s.used rs z
     one-system = same-done (o hall last) _ _ (h.runs t hall size last) (k.runs (ap is_done (sym one_answer) ∙ t) hall size last)
 

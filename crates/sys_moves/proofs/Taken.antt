@@ -4,7 +4,7 @@ use Prim.Native.Nat.{ℕ, ◌+◌, ◌≤◌, ◌<◌}
 use native.Mathlib.Omega.{arith}
 use mathlib.Core.Path.{◌≡◌, refl, sym, ap, ◌∙◌}
 use mathlib.Core.Bool.{Bool, true, false, not, ◌||◌}
-use mathlib.Core.Option.{some}
+use Rattle.std.specs.Prelude.{Option, Some}
 use mathlib.Core.List.{List, [], ◌∷◌, ◌++◌, append_assoc}
 use lib.ListN.{length, take, get_or}
 use Rattle.lists.specs.Lists.{choose, any, lead}
@@ -18,12 +18,11 @@ use Rattle.types.specs.declared.Kind.{Kind}
 use Rattle.types.specs.declared.Rule.{Rule}
 use Rattle.types.specs.declared.Entry.{Entry}
 use Rattle.types.specs.declared.Envelope.{Envelope}
-use Rattle.types.specs.declared.LastMessage.{LastMessage}
 use Rattle.types.specs.declared.InnerCommand.{InnerCommand}
 use Rattle.types.specs.declared.Message.TheVariants.{Ack}
 use Rattle.types.specs.Order.{same}
-use Rattle.answers.specs.declared.Answer.{Answer}
-use Rattle.answers.specs.declared.Answer.TheVariants.{Absent}
+use Rattle.answers.specs.Answers.{Answer}
+use Rattle.answers.specs.Answers.{Absent}
 use Rattle.answers.specs.Answers.{answer_of, answer_number, is_done}
 use Rattle.rules.specs.Outcome.{Outcome, done, refused, bind, guard}
 use Rattle.rules.specs.Network.{Net, delivering, is_duplicating, present, on_deliver}
@@ -107,7 +106,7 @@ module _ (kind : Kind) (e : Envelope) (v : Number) (os : List InnerCommand) (s u
   abbrev message : First
   message = first.Message e v
 
-  abbrev o : Around e.dst → LastMessage → List Rule → Outcome Sys
+  abbrev o : Around e.dst → Option Envelope → List Rule → Outcome Sys
   o = taken_in kind e v os s used x
 
   -- The Ack and what an output told, run and saved, with this network.
@@ -193,7 +192,7 @@ module _ (kind : Kind) (e : Envelope) (v : Number) (os : List InnerCommand) (s u
     b = λ rs. actor_with rs (get_or w 6 0) d' s x
 
     -- The Ack and the inner actor's commands first, then what is saved.
-    ends : (hall : Around e.dst) (last : LastMessage) (rs : List Rule)
+    ends : (hall : Around e.dst) (last : Option Envelope) (rs : List Rule)
         → o hall last rs
         ≡ bind (following kind e.dst message cmds x.cells used (get_or w 6 0) hall last (b rs)) (run_commands (room_of x.cells) e.dst more)
     unfolding bind with_timers
@@ -210,7 +209,7 @@ module _ (kind : Kind) (e : Envelope) (v : Number) (os : List InnerCommand) (s u
             ∙ run-append (room_of x.cells) e.dst cmds more (holding e.dst hall i (b rs))
         go (refused k) = refl
 
-    split : (hall : Around e.dst) (last : LastMessage) (rs : List Rule) (y : Outcome Sys)
+    split : (hall : Around e.dst) (last : Option Envelope) (rs : List Rule) (y : Outcome Sys)
         → following kind e.dst message (take most_told (front_of e.src message ++ asked (get_or w 0 0) os)) x.cells used (get_or w 6 0) hall last (b rs)
         ≡ y
         → o hall last rs ≡ bind y (run_commands (room_of x.cells) e.dst more)
@@ -221,9 +220,9 @@ module _ (kind : Kind) (e : Envelope) (v : Number) (os : List InnerCommand) (s u
 
     -- Saved once or twice, it is stored.
     abbrev c : List Rule → Actor
-    c = λ rs. record { rules = rs; crashed = mark (get_or w 5 0); timers = listed r.timers; link = record { durable = d'; state = s }; storage = some d' }
+    c = λ rs. record { rules = rs; crashed = mark (get_or w 5 0); timers = listed r.timers; link = record { durable = d'; state = s }; storage = Some d' }
 
-    saves : (t : Bool) (hall : Around e.dst) (last : LastMessage) (rs : List Rule)
+    saves : (t : Bool) (hall : Around e.dst) (last : Option Envelope) (rs : List Rule)
         → run_commands (room_of x.cells) e.dst (choose t (Save d' ∷ []) [] ++ Save d' ∷ [])
         (sys_in e.dst hall kind last cs' r.used r.timers (b rs))
         ≡ done (holding e.dst hall (net_of kind last cs' r.used) (c rs))

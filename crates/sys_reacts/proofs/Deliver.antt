@@ -18,9 +18,8 @@ use Rattle.types.specs.declared.Entry.{Entry}
 use Rattle.types.specs.declared.Envelope.{Envelope}
 use Rattle.types.specs.declared.Message.TheVariants.{Ack}
 use Rattle.types.specs.declared.InnerCommand.{InnerCommand}
-use Rattle.answers.specs.declared.Answer.{Answer}
-use Rattle.types.specs.declared.LastMessage.{LastMessage}
-use Rattle.types.specs.declared.LastMessage.TheVariants.{Nothing, Delivered as Got}
+use Rattle.answers.specs.Answers.{Answer}
+use Rattle.std.specs.Prelude.{Option, Some, None}
 use Rattle.answers.specs.Answers.{answer_of, answer_number}
 use Rattle.rules.specs.Outcome.{Outcome, done, refused, bind, guard, Room}
 use Rattle.rules.specs.Network.{Net, len, lowered, fewer, remove, dropping, delivering, is_duplicating, present, on_deliver}
@@ -65,7 +64,7 @@ module _ (e : Envelope) (m : Net) where
   unfolding delivering dropping remove choose
   fewer-entries = go (is_duplicating m.kind)
     where
-      go : (b : Bool) → length (choose b (record { kind = m.kind; entries = m.entries; last = Got e }) (dropping e m)).entries ≤ length m.entries
+      go : (b : Bool) → length (choose b (record { kind = m.kind; entries = m.entries; last = Some e }) (dropping e m)).entries ≤ length m.entries
       go true = omega arith
       go false = cut-length _ fewer fewer-length m.entries
 
@@ -73,7 +72,7 @@ module _ (e : Envelope) (m : Net) where
   unfolding delivering dropping remove choose
   fewer-messages = go (is_duplicating m.kind)
     where
-      go : (b : Bool) → len (choose b (record { kind = m.kind; entries = m.entries; last = Got e }) (dropping e m)).entries ≤ len m.entries
+      go : (b : Bool) → len (choose b (record { kind = m.kind; entries = m.entries; last = Some e }) (dropping e m)).entries ≤ len m.entries
       go true = omega arith
       go false = cut-len _ m.entries
 
@@ -96,13 +95,13 @@ never o p k a b = let z : ◌≡◌ {A = ℕ} 0 1 = cc in omega arith
 
 -- ---- the delivery, by whether the message is there
 module _ (kind : Kind) (e : Envelope) (cs : List (List ℕ)) (used n : ℕ) where
-  pub deliver-is : (last : LastMessage) → on_deliver e (net_of kind last cs used)
+  pub deliver-is : (last : Option Envelope) → on_deliver e (net_of kind last cs used)
       ≡ guard (there kind e cs used) 3 (done (delivering e (net_of kind last cs used)))
   unfolding on_deliver there present
   deliver-is last = refl
 
-  module _ (s : Sent) (cs' : List (List ℕ)) (ch : (last : LastMessage) → Changed cs used n (on_deliver e (net_of kind last cs used)) s cs') where
-    by-there : (b : Bool) → there kind e cs used ≡ b → (last : LastMessage)
+  module _ (s : Sent) (cs' : List (List ℕ)) (ch : (last : Option Envelope) → Changed cs used n (on_deliver e (net_of kind last cs used)) s cs') where
+    by-there : (b : Bool) → there kind e cs used ≡ b → (last : Option Envelope)
         → Changed cs used n (guard b 3 (done (delivering e (net_of kind last cs used)))) s cs'
     by-there b q last =
         subst (λ (t : Bool). Changed cs used n (guard t 3 (done (delivering e (net_of kind last cs used)))) s cs') q
@@ -114,17 +113,17 @@ module _ (kind : Kind) (e : Envelope) (cs : List (List ℕ)) (used n : ℕ) wher
       where
         go : (b : Bool) → there kind e cs used ≡ b → there kind e cs used ≡ true
         go true q = q
-        go false q = absurd (not-both (is_done s.answer) h (ap is_done (by-there false q Nothing).left.0))
+        go false q = absurd (not-both (is_done s.answer) h (ap is_done (by-there false q None).left.0))
 
     pub there-false : is_done s.answer ≡ false → there kind e cs used ≡ false
     unfolding guard answer_of
     there-false h = go (there kind e cs used) refl
       where
         go : (b : Bool) → there kind e cs used ≡ b → there kind e cs used ≡ false
-        go true q = absurd (not-both (is_done s.answer) (ap is_done (by-there true q Nothing).left.0) h)
+        go true q = absurd (not-both (is_done s.answer) (ap is_done (by-there true q None).left.0) h)
         go false q = q
 
-    pub delivered-net : there kind e cs used ≡ true → (last : LastMessage) → on_deliver e (net_of kind last cs used)
+    pub delivered-net : there kind e cs used ≡ true → (last : Option Envelope) → on_deliver e (net_of kind last cs used)
         ≡ done (net_of kind (last_after kind e last) cs' s.used)
     unfolding guard
     delivered-net q last =
@@ -134,7 +133,7 @@ module _ (kind : Kind) (e : Envelope) (cs : List (List ℕ)) (used n : ℕ) wher
         ∙ ap done (λ j. record { kind = delivered-kind e m j; entries = sym h j; last = delivered-last e m j })
 
     pub arrived-ready : NetReady kind cs used n → NetReady kind cs' s.used s.len
-    arrived-ready ready = deliver-ready kind Nothing cs used n ready s cs' e (ch Nothing)
+    arrived-ready ready = deliver-ready kind None cs used n ready s cs' e (ch None)
 
     module _ (me : Id) (v : Number) (cmds : List Command) (w next left : ℕ) where
       abbrev on : Around me → Actor → Net → Outcome Sys
@@ -145,9 +144,9 @@ module _ (kind : Kind) (e : Envelope) (cs : List (List ℕ)) (used n : ℕ) wher
       unfolding guard answer_of bind
       tried-absent f =
           let q = there-false f in
-          let z = (by-there false q Nothing).left in
+          let z = (by-there false q None).left in
           record {
-            room = (ch Nothing).room;
+            room = (ch None).room;
             ready = λ h. absurd (not-both (is_done s.answer) h f);
             runs = λ h. absurd (not-both (is_done s.answer) h f);
             stops =
@@ -162,19 +161,19 @@ module _ (kind : Kind) (e : Envelope) (cs : List (List ℕ)) (used n : ℕ) wher
       unfolding bind
       tried-message t r cs'' ran =
           let q = there-true t in
-          let rooms : room_of cs ≡ room_of cs' = λ j. record { entries = sym (ch Nothing).room j; copies = most_copies } in
-          let then : (hall : Around me) (last : LastMessage) (a : Actor) → following kind me (first.Message e v) cmds cs used w hall last a
+          let rooms : room_of cs ≡ room_of cs' = λ j. record { entries = sym (ch None).room j; copies = most_copies } in
+          let then : (hall : Around me) (last : Option Envelope) (a : Actor) → following kind me (first.Message e v) cmds cs used w hall last a
           ≡ run_commands (room_of cs') me cmds (sys_in me hall kind (last_after kind e last) cs' s.used w a) =
           λ hall last a. ap (λ (o : Outcome Net). bind o (on hall a)) (delivered-net q last)
           ∙ ap (λ (c : Room). run_commands c me cmds (sys_in me hall kind (last_after kind e last) cs' s.used w a)) rooms in
           record {
-            room = ran.room ∙ (ch Nothing).room;
+            room = ran.room ∙ (ch None).room;
             ready = ran.ready;
             runs = λ h hall last a. then hall last a ∙ ran.runs h hall (last_after kind e last) a;
             stops =
                 λ h hall last a. then hall last a ∙ ran.stops h hall (last_after kind e last) a
                 ∙ ap (λ (x : Answer). refused (answer_number x)) (sym (ran.full h));
-            same = λ k h. absurd (never _ _ k (delivered-net q Nothing) h);
+            same = λ k h. absurd (never _ _ k (delivered-net q None) h);
           }
 
 -- ---- nothing goes first
@@ -228,9 +227,9 @@ module _ (kind : Kind) (me : Id) (f : First) (cmds : List Command) (cs : List (L
   -- With room for all of them there is no 8.
   pub safe-roomy : used + sent cmds ≤ length cs → n + sent cmds ≤ most_copies → Safe kind me f cmds cs used n w r cs'
   unfolding bind
-  safe-roomy h k = go (is_done r.answer) refl (entering f (net_of kind Nothing cs used)) refl
+  safe-roomy h k = go (is_done r.answer) refl (entering f (net_of kind None cs used)) refl
     where
-      go : (b : Bool) → is_done r.answer ≡ b → (o : Outcome Net) → entering f (net_of kind Nothing cs used) ≡ o
+      go : (b : Bool) → is_done r.answer ≡ b → (o : Outcome Net) → entering f (net_of kind None cs used) ≡ o
           → Safe kind me f cmds cs used n w r cs'
       go true p o q = safe-done p
       go false p (refused i) q =
@@ -246,9 +245,9 @@ module _ (kind : Kind) (me : Id) (f : First) (cmds : List Command) (cs : List (L
           let hall = some-hall me in
           let u = used-is cs used n ready.laid in
           let v = ready.laid.sum in
-          let x = entered-few f (net_of kind Nothing cs used) m q in
+          let x = entered-few f (net_of kind None cs used) m q in
           let g = runs (room_of cs) me cmds (holding me hall m (with_timers (listed w) (unstarted []))) (omega arith) (omega arith) in
           absurd (never _ g.sys _
           (ap (λ (o : Outcome Net). bind o (λ i. run_commands (room_of cs) me cmds (holding me hall i (with_timers (listed w) (unstarted []))))) q
           ∙ g.done-is)
-          (tried.stops p hall Nothing (unstarted [])))
+          (tried.stops p hall None (unstarted [])))

@@ -14,10 +14,10 @@ use Rattle.lists.specs.Lists.{choose}
 use Rattle.types.specs.declared.Id.{Id}
 use Rattle.types.specs.declared.Number.{Number}
 use Rattle.types.specs.declared.Kind.{Kind}
-use Rattle.answers.specs.declared.Answer.{Answer}
-use Rattle.answers.specs.declared.Answer.TheVariants.{Done, NumbersUsedUp, PendingFull}
-use Rattle.types.specs.declared.LastMessage.{LastMessage}
-use Rattle.types.specs.declared.LastMessage.TheVariants as last
+use Rattle.answers.specs.Answers.{Answer}
+use Rattle.answers.specs.Answers.{Done, NumbersUsedUp, PendingFull}
+use Rattle.std.specs.Prelude.{Option, None}
+use Rattle.types.specs.declared.Envelope.{Envelope}
 use Rattle.types.specs.declared.Message.TheVariants.{Ack}
 use Rattle.types.specs.declared.InnerCommand.{InnerCommand}
 use Rattle.answers.specs.Answers.{answer_of, answer_number}
@@ -118,20 +118,20 @@ module _ (kind : Kind) (me source : Id) (v : Number) (cs : List (List ℕ)) (use
   })
 
   module _ (some : 0 < limit) (s : Sent) (cs' : List (List ℕ))
-      (ch : (last : LastMessage) → Changed cs used n (send (room_of cs) (record { src = me; dst = source; msg = Ack v })
+      (ch : (last : Option Envelope) → Changed cs used n (send (room_of cs) (record { src = me; dst = source; msg = Ack v })
       (net_of kind last cs used)) s cs') where
     cmds : take limit (ack ∷ asked next os) ≡ ack ∷ take (limit - 1) (asked next os)
     cmds = take-first limit ack (asked next os) some
 
     pub acked-ready : NetReady kind cs' s.used s.len
-    acked-ready = send-ready kind last.Nothing cs used n ready s cs' _ (ch last.Nothing)
+    acked-ready = send-ready kind None cs used n ready s cs' _ (ch None)
 
     pub ran-unacked : is_done s.answer ≡ false → Ran kind me (take limit (ack ∷ asked next os)) cs used w
         (record { answer = s.answer; used = used; len = n; timers = w; next = next; left = limit }) cs'
     unfolding run_commands with_net
     ran-unacked g = record {
-      room = (ch last.Nothing).room;
-      full = sent-full kind last.Nothing cs used n _ s cs' (ch last.Nothing);
+      room = (ch None).room;
+      full = sent-full kind None cs used n _ s cs' (ch None);
       ready = λ h. absurd (not-both (is_done s.answer) h g);
       runs = λ h. absurd (not-both (is_done s.answer) h g);
       stops =
@@ -144,15 +144,15 @@ module _ (kind : Kind) (me source : Id) (v : Number) (cs : List (List ℕ)) (use
         → Ran kind me (take limit (ack ∷ asked next os)) cs used w r cs''
     unfolding run_commands with_net
     ran-acked g r cs'' ran =
-        let rooms : room_of cs ≡ room_of cs' = λ j. record { entries = sym (ch last.Nothing).room j; copies = most_copies } in
-        let on : (hall : Around me) (last : LastMessage) (a : Actor)
+        let rooms : room_of cs ≡ room_of cs' = λ j. record { entries = sym (ch None).room j; copies = most_copies } in
+        let on : (hall : Around me) (last : Option Envelope) (a : Actor)
         → run_commands (room_of cs) me (take limit (ack ∷ asked next os)) (sys_in me hall kind last cs used w a)
         ≡ run_commands (room_of cs') me (take (limit - 1) (asked next os)) (sys_in me hall kind last cs' s.used w a) =
         λ hall last a. ap (λ (l : List Command). run_commands (room_of cs) me l (sys_in me hall kind last cs used w a)) cmds
         ∙ sent-on kind last cs used n _ s cs' (ch last) _ g
         ∙ ap (λ (c : Room). run_commands c me (take (limit - 1) (asked next os)) (sys_in me hall kind last cs' s.used w a)) rooms in
         record {
-          room = ran.room ∙ (ch last.Nothing).room;
+          room = ran.room ∙ (ch None).room;
           full = ran.full;
           ready = ran.ready;
           runs = λ h hall last a. on hall last a ∙ ran.runs h hall last a;

@@ -1,11 +1,9 @@
 -- 6 and 7 of so many sends, and what a message and the commands after it leave, put back after an 8 or not.
 -- Assumes nothing.
-use Rattle.std.specs.Prelude.{ℕ, ◌-◌, ◌≡◌, Bool, true, false, ◌&&◌, ◌||◌, List, [], ◌∷◌, length, leb}
+use Rattle.std.specs.Prelude.{ℕ, ◌-◌, ◌≡◌, Bool, true, false, ◌&&◌, ◌||◌, List, [], ◌∷◌, length, leb, Option, None}
 use Rattle.lists.specs.Lists.{choose}
 use Rattle.types.specs.declared.Id.{Id}
 use Rattle.types.specs.declared.Kind.{Kind}
-use Rattle.types.specs.declared.LastMessage.{LastMessage}
-use Rattle.types.specs.declared.LastMessage.TheVariants.{Nothing as Nowhere}
 use Rattle.types.specs.declared.Envelope.{Envelope}
 use Rattle.answers.specs.Answers.{answer_number}
 use Rattle.types.specs.declared.Message.TheVariants.{Ack}
@@ -39,19 +37,19 @@ front_of source (Message e n) = Send source (Ack n) ∷ []
 
 -- A message is there to be delivered: else 3.
 unfoldable pub there : Kind → Envelope → List (List ℕ) → ℕ → Bool
-there kind e cs used = is_duplicating kind || present e (net_of kind Nowhere cs used)
+there kind e cs used = is_duplicating kind || present e (net_of kind None cs used)
 
 -- What goes first does this to the network, and this to the last message.
 abbrev pub entering : First → Net → Outcome Net
 entering Nothing n = done n
 entering (Message e v) n = on_deliver e n
 
-abbrev pub last_by : Kind → First → LastMessage → LastMessage
+abbrev pub last_by : Kind → First → Option Envelope → Option Envelope
 last_by kind Nothing last = last
 last_by kind (Message e v) last = last_after kind e last
 
 -- What goes first, and the commands after it.
-abbrev pub following : Kind → (me : Id) → First → List Command → List (List ℕ) → ℕ → ℕ → Around me → LastMessage → Actor → Outcome Sys
+abbrev pub following : Kind → (me : Id) → First → List Command → List (List ℕ) → ℕ → ℕ → Around me → Option Envelope → Actor → Outcome Sys
 following kind me first cmds cs used w hall last a =
     bind (entering first (net_of kind last cs used)) (λ n. run_commands (room_of cs) me cmds (holding me hall n (with_timers (listed w) a)))
 
@@ -60,11 +58,11 @@ pub record Tried (kind : Kind) (me : Id) (first : First) (cmds : List Command) (
     (cs' : List (List ℕ)) : Type 0 where
   pub room : length cs' ≡ length cs
   pub ready : is_done r.answer ≡ true → NetReady kind cs' r.used r.len
-  pub runs : is_done r.answer ≡ true → (hall : Around me) (last : LastMessage) (a : Actor) → following kind me first cmds cs used w hall last a
+  pub runs : is_done r.answer ≡ true → (hall : Around me) (last : Option Envelope) (a : Actor) → following kind me first cmds cs used w hall last a
       ≡ done (sys_in me hall kind (last_by kind first last) cs' r.used r.timers a)
-  pub stops : is_done r.answer ≡ false → (hall : Around me) (last : LastMessage) (a : Actor) → following kind me first cmds cs used w hall last a
+  pub stops : is_done r.answer ≡ false → (hall : Around me) (last : Option Envelope) (a : Actor) → following kind me first cmds cs used w hall last a
       ≡ refused (answer_number r.answer)
-  pub same : (k : ℕ) → entering first (net_of kind Nowhere cs used) ≡ refused k
+  pub same : (k : ℕ) → entering first (net_of kind None cs used) ≡ refused k
       → (cs' ≡ cs) × (r.used ≡ used) × (r.len ≡ n) × (r.timers ≡ w)
 
 -- They were run, or else everything is as it was.
@@ -72,8 +70,8 @@ pub record Safe (kind : Kind) (me : Id) (first : First) (cmds : List Command) (c
     (cs' : List (List ℕ)) : Type 0 where
   pub room : length cs' ≡ length cs
   pub ready : NetReady kind cs' r.used r.len
-  pub runs : is_done r.answer ≡ true → (hall : Around me) (last : LastMessage) (a : Actor) → following kind me first cmds cs used w hall last a
+  pub runs : is_done r.answer ≡ true → (hall : Around me) (last : Option Envelope) (a : Actor) → following kind me first cmds cs used w hall last a
       ≡ done (sys_in me hall kind (last_by kind first last) cs' r.used r.timers a)
-  pub stops : is_done r.answer ≡ false → (hall : Around me) (last : LastMessage) (a : Actor) → following kind me first cmds cs used w hall last a
+  pub stops : is_done r.answer ≡ false → (hall : Around me) (last : Option Envelope) (a : Actor) → following kind me first cmds cs used w hall last a
       ≡ refused (answer_number r.answer)
   pub kept : is_done r.answer ≡ false → (cs' ≡ cs) × (r.used ≡ used) × (r.len ≡ n) × (r.timers ≡ w)

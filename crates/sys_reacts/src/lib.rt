@@ -13,7 +13,7 @@ ghost use Rattle.link_tables.specs.Rows.{RowLaid, orders};
 ghost use Rattle.sys_emits.specs.Views.{Ran};
 ghost use Rattle.sys_reacts.specs.Views.{refusal_of, front_of, Tried, Safe};
 
-use answers::{Answer, is_done};
+use answers::{Answer, Refusal, is_done};
 use sys_emits::{Emitted, emit};
 use types::{Envelope, Id, Kind, MOST_COPIES, MOST_ENTRIES, Message, Number};
 
@@ -33,14 +33,14 @@ pub fn refusal(next: u64, pending: u64, room: u64, sends: u64) -> Answer
     let places = room - pending;
     if numbers <= places {
         if sends <= numbers {
-            return Answer::Done;
+            return Ok(());
         }
-        return Answer::NumbersUsedUp;
+        return Err(Refusal::NumbersUsedUp);
     }
     if sends <= places {
-        return Answer::Done;
+        return Ok(());
     }
-    Answer::PendingFull
+    Err(Refusal::PendingFull)
 }
 
 // Whether so many sends cannot be refused.
@@ -79,11 +79,11 @@ fn acked_row(
 {
     if limit == 0 {
         return Emitted {
-            answer: Answer::Done,
-            used: used,
-            len: len,
-            timers: timers,
-            next: next,
+            answer: Ok(()),
+            used,
+            len,
+            timers,
+            next,
             left: 0,
         };
     }
@@ -97,10 +97,10 @@ fn acked_row(
     if !is_done(a) {
         return Emitted {
             answer: a,
-            used: used,
-            len: len,
-            timers: timers,
-            next: next,
+            used,
+            len,
+            timers,
+            next,
             left: limit,
         };
     }
@@ -148,10 +148,10 @@ fn run_row(
             if !is_done(a) {
                 return Emitted {
                     answer: a,
-                    used: used,
-                    len: len,
-                    timers: timers,
-                    next: next,
+                    used,
+                    len,
+                    timers,
+                    next,
                     left: limit,
                 };
             }
@@ -199,10 +199,10 @@ pub fn react_row(
     *c = old;
     Emitted {
         answer: a,
-        used: used,
-        len: len,
-        timers: timers,
-        next: next,
+        used,
+        len,
+        timers,
+        next,
         left: limit,
     }
 }

@@ -12,9 +12,9 @@ use Rattle.types.specs.Capacities.{most_copies}
 use Rattle.types.specs.declared.Id.{Id}
 use Rattle.types.specs.declared.Kind.{Kind}
 use Rattle.types.specs.declared.Pending.{Pending}
-use Rattle.answers.specs.declared.Answer.TheVariants.{Done}
-use Rattle.types.specs.declared.LastMessage.{LastMessage}
-use Rattle.types.specs.declared.LastMessage.TheVariants as last
+use Rattle.answers.specs.Answers.{Done}
+use Rattle.std.specs.Prelude.{Option, None}
+use Rattle.types.specs.declared.Envelope.{Envelope}
 use Rattle.types.specs.declared.Message.TheVariants.{Deliver}
 use Rattle.rules.specs.Outcome.{Room}
 use Rattle.rules.specs.Network.{send}
@@ -54,7 +54,7 @@ module _ (kind : Kind) (me : Id) (cmds : List Command) (cs₀ : List (List ℕ))
   pub record Along (cs : List (List ℕ)) (u l k : ℕ) (rest : List Pending) : Type 0 where
     pub room : length cs ≡ length cs₀
     pub ready : NetReady kind cs u l
-    pub goal : (hall : Around me) (last : LastMessage) (a : Actor)
+    pub goal : (hall : Around me) (last : Option Envelope) (a : Actor)
         → run_commands (room_of cs₀) me cmds (sys_in me hall kind last cs₀ used w a)
         ≡ run_commands (room_of cs₀) me (take k (resent rest)) (sys_in me hall kind last cs u w a)
 
@@ -71,7 +71,7 @@ module _ (kind : Kind) (me : Id) (cmds : List Command) (cs₀ : List (List ℕ))
     }
 
     module _ (some : 0 < k) (q : Pending) (more : List Pending) (split : rest ≡ q ∷ more) (s : Sent) (cs' : List (List ℕ))
-        (ch : (last : LastMessage)
+        (ch : (last : Option Envelope)
         → Changed cs u l (send (room_of cs) (record { src = me; dst = q.dst; msg = Deliver q.number q.payload }) (net_of kind last cs u)) s cs') where
       rooms : room_of cs₀ ≡ room_of cs
       rooms = λ j. record { entries = sym on.room j; copies = most_copies }
@@ -83,7 +83,7 @@ module _ (kind : Kind) (me : Id) (cmds : List Command) (cs₀ : List (List ℕ))
       unfolding resent
       splits = ap (λ (r : List Pending). take k (resent r)) split ∙ take-first k first (resent more) some
 
-      here : (hall : Around me) (last : LastMessage) (a : Actor)
+      here : (hall : Around me) (last : Option Envelope) (a : Actor)
           → run_commands (room_of cs₀) me cmds (sys_in me hall kind last cs₀ used w a)
           ≡ run_commands (room_of cs) me (first ∷ take (k - 1) (resent more)) (sys_in me hall kind last cs u w a)
       here hall last a =
@@ -94,8 +94,8 @@ module _ (kind : Kind) (me : Id) (cmds : List Command) (cs₀ : List (List ℕ))
           → Ran kind me cmds cs₀ used w (record { answer = s.answer; used = u; len = l; timers = w; next = 0; left = k }) cs'
       unfolding run_commands with_net
       along-stop f = record {
-        room = (ch last.Nothing).room ∙ on.room;
-        full = sent-full kind last.Nothing cs u l _ s cs' (ch last.Nothing);
+        room = (ch None).room ∙ on.room;
+        full = sent-full kind None cs u l _ s cs' (ch None);
         ready = λ h. absurd (not-both (is_done s.answer) h f);
         runs = λ h. absurd (not-both (is_done s.answer) h f);
         stops = λ h hall last a. here hall last a ∙ sent-stops kind last cs u l _ s cs' (ch last) _ h;
@@ -104,8 +104,8 @@ module _ (kind : Kind) (me : Id) (cmds : List Command) (cs₀ : List (List ℕ))
       pub along-step : is_done s.answer ≡ true → Along cs' s.used s.len (k - 1) more
       unfolding run_commands with_net
       along-step t = record {
-        room = (ch last.Nothing).room ∙ on.room;
-        ready = send-ready kind last.Nothing cs u l on.ready s cs' _ (ch last.Nothing);
+        room = (ch None).room ∙ on.room;
+        ready = send-ready kind None cs u l on.ready s cs' _ (ch None);
         goal = λ hall last a.
             here hall last a ∙ sent-on kind last cs u l _ s cs' (ch last) _ t
             ∙ ap (λ (c : Room). run_commands c me (take (k - 1) (resent more)) (sys_in me hall kind last cs' s.used w a)) (sym rooms);

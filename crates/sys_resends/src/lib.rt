@@ -1,9 +1,9 @@
 // Every pending message is sent again, in place, at most so many of them; and the same with the cells put back after an 8.
 #![tactic(auto)]
 
-ghost use Rattle.std.specs.Prelude.{◌≡◌, map, ◌≤◌, ◌<◌, length, take};
+ghost use Rattle.std.specs.Prelude.{◌≡◌, map, ◌≤◌, ◌<◌, length, take, Option};
 ghost use Rattle.types.specs.Capacities.{most_entries};
-ghost use Rattle.types.specs.declared.LastMessage.{LastMessage};
+ghost use Rattle.types.specs.declared.Envelope.{Envelope};
 ghost use Rattle.types.specs.declared.Message.TheVariants.{Deliver};
 ghost use Rattle.rules.specs.Network.{send};
 ghost use Rattle.rules.specs.Link.{resent};
@@ -13,7 +13,7 @@ ghost use Rattle.sys_emits.specs.Views.{Ran};
 ghost use Rattle.sys_reacts.specs.declared.First.TheVariants.{Nothing};
 ghost use Rattle.sys_reacts.specs.Views.{Safe};
 
-use answers::{Answer, is_done};
+use answers::is_done;
 use link_rows::RECORD;
 use net_rows::Sent;
 use sys_emits::Emitted;
@@ -31,7 +31,7 @@ fn resend_one(
     payload: u64,
 ) -> Sent
     requires { NetReady kind c.old used len × (dst < 256) × (payload < 4294967296) }
-    ensures { (last : LastMessage) → Changed c.old used len (send (room_of c.old)
+    ensures { (last : Option Envelope) → Changed c.old used len (send (room_of c.old)
         (record { src = me; dst = record { 0 = dst }; msg = Deliver (record { 0 = number }) (record { 0 = payload }) }) (net_of kind last c.old used))
         result c.new }
 {
@@ -65,10 +65,10 @@ fn resend(
     while i < n {
         if k == 0 {
             return Emitted {
-                answer: Answer::Done,
+                answer: Ok(()),
                 used: u,
                 len: l,
-                timers: timers,
+                timers,
                 next: 0,
                 left: k,
             };
@@ -80,7 +80,7 @@ fn resend(
                 answer: a,
                 used: u,
                 len: l,
-                timers: timers,
+                timers,
                 next: 0,
                 left: k,
             };
@@ -91,10 +91,10 @@ fn resend(
         i += 1;
     }
     Emitted {
-        answer: Answer::Done,
+        answer: Ok(()),
         used: u,
         len: l,
-        timers: timers,
+        timers,
         next: 0,
         left: k,
     }
@@ -128,9 +128,9 @@ pub fn resend_all(
     *c = old;
     Emitted {
         answer: a,
-        used: used,
-        len: len,
-        timers: timers,
+        used,
+        len,
+        timers,
         next: 0,
         left: limit,
     }

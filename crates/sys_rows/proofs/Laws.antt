@@ -3,7 +3,7 @@
 use Prim.Native.Nat.{ℕ, ◌+◌, ◌≤◌, ◌<◌}
 use native.Mathlib.Omega.{arith}
 use mathlib.Core.Path.{◌≡◌, sym, ap, ◌∙◌}
-use mathlib.Core.Option.{Option, some}
+use Rattle.std.specs.Prelude.{Option, Some}
 use mathlib.Core.List.{List, map}
 use lib.ListN.{length, take, drop, get_or, set, length-set}
 use lib.Seq.{get_or-set_same, get_or-set_other, get_or-drop, drop-set-lt}
@@ -177,12 +177,12 @@ module _ (rs : List Rule) (d : Durable) (t s : ℕ) (w w' : List ℕ) (p' : List
       }
 
   -- stored
-  pub as-stored : (k : List ℕ) (q : List (List ℕ)) → Kept w' p' k q → actor_of rs w' p' k q ≡ actor_with (some d)
+  pub as-stored : (k : List ℕ) (q : List (List ℕ)) → Kept w' p' k q → actor_of rs w' p' k q ≡ actor_with (Some d)
   unfolding stored_in
   as-stored k q kept =
       let r = set_to.laid.room in
       let g : get_or k 5 0 ≡ 1 = ap (λ (l : List ℕ). get_or l 5 0) kept.row ∙ get_or-set_same w' 5 1 0 (omega arith) in
-      as_settled k q ∙ ap actor_with (ap (λ (n : ℕ). stored_in n (durable_in k q)) g ∙ ap some (stored-durable w' p' k q kept ∙ set_to.durable))
+      as_settled k q ∙ ap actor_with (ap (λ (n : ℕ). stored_in n (durable_in k q)) g ∙ ap Some (stored-durable w' p' k q kept ∙ set_to.durable))
 
 -- What is stored is laid out as the live rows are.
 pub stored-laid : (w : List ℕ) (p : List (List ℕ)) (k : List ℕ) (q : List (List ℕ)) → Kept w p k q → RowsLaid w p → RowsLaid k q

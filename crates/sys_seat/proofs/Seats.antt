@@ -6,7 +6,7 @@ use mathlib.Core.List.{List, [], ◌∷◌, ◌++◌}
 use native.Mathlib.Omega.{arith}
 use lib.ListN.{set, replicate, length-replicate}
 use Rattle.types.specs.declared.Kind.TheVariants.{Ordered}
-use Rattle.types.specs.declared.LastMessage.TheVariants.{Nothing}
+use Rattle.std.specs.Prelude.{None}
 use Rattle.types.specs.declared.Id.{Id}
 use Rattle.rules.specs.Outcome.{Outcome, done, refused, bind, Room}
 use Rattle.rules.specs.Timers.{set_timer, cancel_timer}
@@ -24,7 +24,7 @@ set_twice {A = A} (x ∷ l) (suc i) a b = ap (λ (m : List A). x ∷ m) (set_twi
 -- There is a system with a seat for anybody.
 pub some-hall : (i : Id) → Around i
 some-hall i = record {
-  sys = record { net = record { kind = Ordered; entries = []; last = Nothing }; actors = replicate (suc i.0) (unstarted []) };
+  sys = record { net = record { kind = Ordered; entries = []; last = None }; actors = replicate (suc i.0) (unstarted []) };
   there = let z = length-replicate (suc i.0) (unstarted []) in omega arith;
 }
 

@@ -11,10 +11,9 @@ use Rattle.types.specs.Capacities.{most_entries, most_copies}
 use Rattle.lists.specs.Lists.{all, chain}
 use Rattle.types.specs.declared.Envelope.{Envelope}
 use Rattle.types.specs.declared.Kind.{Kind}
-use Rattle.types.specs.declared.LastMessage.{LastMessage}
-use Rattle.types.specs.declared.LastMessage.TheVariants.{Nothing}
-use Rattle.answers.specs.declared.Answer.{Answer}
-use Rattle.answers.specs.declared.Answer.TheVariants.{Done}
+use Rattle.std.specs.Prelude.{Option, None}
+use Rattle.answers.specs.Answers.{Answer}
+use Rattle.answers.specs.Answers.{Done}
 use Rattle.answers.specs.Answers.{answer_number, is_done}
 use Rattle.rules.specs.Outcome.{Outcome, refused, bind, Room, base}
 use Rattle.rules.specs.Network.{Net, send, len}
@@ -47,36 +46,36 @@ module _ (k : Kind) (list : List Envelope) (count : ℕ) where
 
   module _ (cs : List (List ℕ)) (used n i : ℕ) (g : Filling cs used n i) (h : i < count) (fit : count ≤ length list) (z : Envelope)
       (s : Sent) (cs' : List (List ℕ))
-      (ch : (last : LastMessage) → Changed cs used n (send (room_of cs) (get_or list i z) (net_of k last cs used)) s cs') where
+      (ch : (last : Option Envelope) → Changed cs used n (send (room_of cs) (get_or list i z) (net_of k last cs used)) s cs') where
     limits : base.room ≡ room_of cs
     limits = let e = g.room in λ j. record { entries = sym e j; copies = most_copies }
 
     abbrev onward : List rules.Actor → Net → Outcome Sys
     onward l m = fill base.room (slice (suc i) count list) (record { net = m; actors = l })
 
-    next : (l : List rules.Actor) → whole l ≡ bind (send (room_of cs) (get_or list i z) (net_of k Nothing cs used)) (onward l)
+    next : (l : List rules.Actor) → whole l ≡ bind (send (room_of cs) (get_or list i z) (net_of k None cs used)) (onward l)
     unfolding fill with_net
     next l =
         g.same l ∙ ap (λ (es : List Envelope). fill base.room es (sys_on k cs used l)) (slice-cons i count list z h fit)
-        ∙ ap (λ (r : Room). bind (send r (get_or list i z) (net_of k Nothing cs used)) (onward l)) limits
+        ∙ ap (λ (r : Room). bind (send r (get_or list i z) (net_of k None cs used)) (onward l)) limits
 
     ready : NetReady k cs' s.used s.len
-    ready = send-ready k Nothing cs used n g.net s cs' (get_or list i z) (ch Nothing)
+    ready = send-ready k None cs used n g.net s cs' (get_or list i z) (ch None)
 
     pub fill-goes : is_done s.answer ≡ true → Filling cs' s.used s.len (suc i)
     fill-goes t = record {
       net = ready;
-      room = (ch Nothing).room ∙ g.room;
-      same = λ l. next l ∙ sent-on k Nothing cs used n (get_or list i z) s cs' (ch Nothing) (onward l) t;
+      room = (ch None).room ∙ g.room;
+      same = λ l. next l ∙ sent-on k None cs used n (get_or list i z) s cs' (ch None) (onward l) t;
     }
 
     pub fill_stops : is_done s.answer ≡ false → Filled k (take count list) s cs'
     fill_stops f = record {
       net = ready;
-      room = (ch Nothing).room ∙ g.room;
+      room = (ch None).room ∙ g.room;
       runs = λ t. absurd (not-both (is_done s.answer) t f);
-      stops = λ _ l. next l ∙ sent-stops k Nothing cs used n (get_or list i z) s cs' (ch Nothing) (onward l) f
-          ∙ ap (λ (a : Answer). refused (answer_number a)) (sym (sent-full k Nothing cs used n (get_or list i z) s cs' (ch Nothing) f));
+      stops = λ _ l. next l ∙ sent-stops k None cs used n (get_or list i z) s cs' (ch None) (onward l) f
+          ∙ ap (λ (a : Answer). refused (answer_number a)) (sym (sent-full k None cs used n (get_or list i z) s cs' (ch None) f));
     }
 
   pub fill-ends : (cs : List (List ℕ)) (used n : ℕ) → Filling cs used n count

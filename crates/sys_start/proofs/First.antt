@@ -1,21 +1,18 @@
 -- Kinds and tables as they are given: what their types say, and the tables that are used.
 -- Assumes nothing.
-use Prim.Native.Nat.{ℕ, zero, suc, ◌+◌, ◌<◌}
-use native.Mathlib.Numerals.{add-one}
-use native.Mathlib.Omega.{arith}
-use mathlib.Core.Path.{◌≡◌, refl, sym, ap, ◌∙◌}
-use mathlib.Core.Bool.{true}
+use Prim.Native.Nat.{ℕ, zero, suc}
+use mathlib.Core.Path.{◌≡◌, refl, ap}
+use mathlib.Core.Bool.{Bool, true, ◌&&◌}
 use mathlib.Core.List.Memᴰ
 use mathlib.Core.List.{List, [], ◌∷◌}
-use lib.ListN.{length, take, get_or, set}
-use lib.Seq.{length-take-le, take-suc}
+use lib.ListN.{length, take}
+use Rattle.std.specs.List.{list_all}
 use mir.Val.{Val}
 use denote.Shadow.{shadow}
 use denote.Array.{Array, each}
 use denote.Struct.Declared.{row}
-use Rattle.lists.specs.Lists.{◌∈◌, all, pad}
+use Rattle.lists.specs.Lists.{◌∈◌, all}
 use Rattle.lists.proofs.Members.{all_in}
-use Rattle.lists.proofs.Places.{append-pad}
 use Rattle.types.specs.declared.Kind.TheVariants.{UnorderedNonDuplicating}
 use Rattle.rules.specs.Network.{kind_of}
 use Rattle.link_inner.specs.declared.Table.{Table}
@@ -33,16 +30,11 @@ kind-above zero f g = absurd (f refl)
 kind-above (suc zero) f g = absurd (g refl)
 kind-above (suc (suc k)) f g = refl
 
--- ---- what is written next to the first i, where the rest is zero
-module _ {A : Type 0} (n : ℕ) (z : A) where
-  pub copied_on : (xs es : List A) (i : ℕ) (d : A) → i < length xs → i < n → es ≡ pad n z (take i xs) → set es i (get_or xs i d)
-      ≡ pad n z (take (i + 1) xs)
-  copied_on xs es i d h k e =
-      let m = length-take-le i xs (omega arith) in
-      ap (λ (l : List A). set l i (get_or xs i d)) e
-      ∙ ap (λ (j : ℕ). set (pad n z (take i xs)) j (get_or xs i d)) (sym m)
-      ∙ append-pad n (take i xs) (get_or xs i d) z (omega arith)
-      ∙ ap (pad n z) (sym (rw add-one (take-suc xs i d h)))
+-- ---- the library's test of a list is ours
+pub listed-all : {A : Type 0} (p : A → Bool) (l : List A) → list_all p l ≡ all p l
+unfolding all
+listed-all p [] = refl
+listed-all p (x ∷ l) = ap (λ (b : Bool). p x && b) (listed-all p l)
 
 -- ---- the tables
 -- What is told of each element of an array is told of each table in it.

@@ -9,7 +9,7 @@ use borrow.Author.Tests.{eqb-true}
 use Rattle.types.specs.declared.Kind.{Kind}
 use Rattle.types.specs.declared.Rule.{Rule}
 use Rattle.answers.specs.Answers.{answer_number, answer_of, is_done}
-use Rattle.answers.specs.declared.Answer.TheVariants.{Done}
+use Rattle.answers.specs.Answers.{Done}
 use Rattle.answers.proofs.Numbers.{number-answer, number-inj, done-is-0}
 use Rattle.rules.specs.Outcome.{Outcome, done, refused, bind, guard, base}
 use Rattle.rules.specs.Network.{kind_of}

@@ -3,7 +3,7 @@
 use Prim.Native.Nat.{ℕ, ◌≤◌}
 use native.Mathlib.Omega.{arith}
 use mathlib.Core.Path.{◌≡◌, sym, subst, ◌∙◌}
-use mathlib.Core.Bool.{Bool, true}
+use mathlib.Core.Bool.{Bool, true, ◌&&◌}
 use mathlib.Core.List.{List, [], ◌∷◌, map}
 use lib.ListN.{length, take, length-map}
 use lib.Seq.{length-take-le}
@@ -21,7 +21,7 @@ use Rattle.sys_system.specs.Views.{table_laid}
 use Rattle.sys_system.proofs.Tables.{table-parts, table-make}
 use Rattle.sys_system.proofs.Laws.{same_true}
 use Rattle.sys_start.specs.declared.Given.{Given}
-use Rattle.sys_start.specs.Views.{given_view, tables_view, start_laid, start_fine}
+use Rattle.sys_start.specs.Views.{counts_fit, given_view, tables_view, start_laid, start_fine}
 
 -- ---- tables
 pub tables-sound : (l : List Table) → all table_ok l ≡ true → all sound (map rules_of l) ≡ true
@@ -33,11 +33,17 @@ tables-fine l e f = all-make _ l (λ t m. table-make t (all_in _ _ e t m) (all_i
 pub count-seen : (count : ℕ) (tables : List Table) → length tables ≡ most_actors → count ≤ most_actors → length (tables_view count tables) ≡ count
 count-seen count tables n h = length-map (take count tables) rules_of ∙ length-take-le count tables (omega arith)
 
+-- ---- what the counts allow
+pub counts-allow : (kind count used : ℕ) → counts_fit kind count used ≡ true → (count ≤ most_actors) × (used ≤ most_entries)
+counts-allow kind count used e =
+    let c = and_both (leb 1 count && leb count most_actors && leb kind 2) _ e in
+    let b = and_both (leb 1 count && leb count most_actors) _ c.0 in
+    (leb-true _ _ (and_both (leb 1 count) _ b.0).1, leb-true _ _ c.1)
+
 module _ (kind count : ℕ) (tables : List Table) (g : Given) where
   -- The tests, as they are asked.
-  abbrev pub tests : List Bool
-  tests = leb 1 count ∷ leb count most_actors ∷ leb kind 2 ∷ all table_ok (take count tables) ∷ leb g.used most_entries
-      ∷ all (source_known count) (given_view g) ∷ []
+  abbrev pub tests : Bool
+  tests = counts_fit kind count g.used && (all table_ok (take count tables) && all (source_known count) (given_view g))
 
   pub record Fine : Type 0 where
     pub some : 1 ≤ count
@@ -47,23 +53,27 @@ module _ (kind count : ℕ) (tables : List Table) (g : Given) where
     pub held : g.used ≤ most_entries
     pub sources : all (source_known count) (given_view g) ≡ true
 
-  of-tests : every tests ≡ true → Fine
+  of-tests : tests ≡ true → Fine
   of-tests e =
-      let a = every-cons _ _ e in let b = every-cons _ _ a.1 in let c = every-cons _ _ b.1 in let d = every-cons _ _ c.1 in
-      let f = every-cons _ _ d.1 in
+      let x = and_both (counts_fit kind count g.used) _ e in
+      let y = and_both (all table_ok (take count tables)) _ x.1 in
+      let c = and_both (leb 1 count && leb count most_actors && leb kind 2) _ x.0 in
+      let b = and_both (leb 1 count && leb count most_actors) _ c.0 in
+      let a = and_both (leb 1 count) _ b.0 in
       record {
         some = leb-true _ _ a.0;
-        few = leb-true _ _ b.0;
-        kinds = leb-true _ _ c.0;
-        tables-ok = d.0;
-        held = leb-true _ _ f.0;
-        sources =
-            (every-cons _ _ f.1).0;
+        few = leb-true _ _ a.1;
+        kinds = leb-true _ _ b.1;
+        tables-ok = y.0;
+        held = leb-true _ _ c.1;
+        sources = y.1;
       }
 
-  to-tests : Fine → every tests ≡ true
-  to-tests f = every-make _ _ (le-leb _ _ f.some) (every-make _ _ (le-leb _ _ f.few)
-      (every-make _ _ (le-leb _ _ f.kinds) (every-make _ _ f.tables-ok (every-make _ _ (le-leb _ _ f.held) (every-make _ _ f.sources every-nil)))))
+  to-tests : Fine → tests ≡ true
+  to-tests f =
+      and-make _ _
+      (and-make _ _ (and-make _ _ (and-make _ _ (le-leb _ _ f.some) (le-leb _ _ f.few)) (le-leb _ _ f.kinds)) (le-leb _ _ f.held))
+      (and-make _ _ f.tables-ok f.sources)
 
   module _ (room : length tables ≡ most_actors) where
     pub fine_of : start_fine kind count tables g ≡ true → Fine
@@ -100,5 +110,5 @@ module _ (kind count : ℕ) (tables : List Table) (g : Given) where
         (every-make _ _ (le-leb _ _ f.some) (every-make _ _ (le-leb _ _ f.few) (every-make _ _ (le-leb _ _ f.kinds)
         (every-make _ _ (tables-sound (take count tables) f.tables-ok) (every-make _ _ f.sources every-nil))))))
 
-    pub fine-tests : start_fine kind count tables g ≡ every tests
+    pub fine-tests : start_fine kind count tables g ≡ tests
     fine-tests = same_true _ _ (λ e. to-tests (fine_of e)) (λ e. of-fine (of-tests e))

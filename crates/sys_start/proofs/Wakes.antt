@@ -5,19 +5,19 @@ use native.Mathlib.Omega.{arith}
 use mathlib.Core.Path.{◌≡◌, refl, sym, ap, ap₂, subst, ◌∙◌}
 use mathlib.Core.Bool.{true, false}
 use mathlib.Core.List.{List, [], ◌∷◌, ◌++◌, map, append_assoc, append-nil}
-use lib.ListN.{length, take, drop, get_or, set, replicate, length-map, length-append, drop_of_length-le}
+use lib.ListN.{length, take, drop, get_or, set, length-map, length-append, drop_of_length-le}
 use lib.Seq.{drop-cons, take-suc, get_or-take, length-take-le}
-use Rattle.types.specs.Capacities.{most_actors, most_entries, most_pending}
+use Rattle.types.specs.Capacities.{most_actors, most_entries}
 use Rattle.lists.specs.Lists.{◌∈◌, pad}
 use Rattle.lists.proofs.Members.{all_in, get_in}
 use Rattle.lists.proofs.Places.{append-pad, map_get}
 use Rattle.types.specs.declared.Id.{Id}
 use Rattle.types.specs.declared.Kind.{Kind}
 use Rattle.types.specs.declared.Rule.{Rule}
-use Rattle.types.specs.declared.LastMessage.{LastMessage}
-use Rattle.types.specs.declared.LastMessage.TheVariants.{Nothing}
-use Rattle.answers.specs.declared.Answer.TheVariants.{Done}
-use Rattle.answers.specs.Answers.{answer_number, answer_of, is_done}
+use Rattle.std.specs.Prelude.{Option, None}
+use Rattle.types.specs.declared.Envelope.{Envelope}
+use Rattle.answers.specs.Answers.{Done}
+use Rattle.answers.specs.Answers.{answer_of, is_done}
 use Rattle.answers.proofs.Numbers.{number-answer}
 use Rattle.rules.specs.Outcome.{Outcome, done, refused, bind, Caps, base}
 use Rattle.rules.specs.Network.{Net}
@@ -31,20 +31,18 @@ use Rattle.net_network.specs.Parts.{read_back}
 use Rattle.net_network.proofs.Changes.{read_is}
 use Rattle.link_inner.specs.declared.Table.{Table}
 use Rattle.link_inner.specs.Views.{rules_of, table_ok, zero_table}
-use Rattle.link_rows.specs.Rows.{row_size}
 use Rattle.sys_actor.specs.declared.Actor.{Actor}
 use Rattle.sys_actor.specs.Views.{actor_view, actor_as, ActorLaid, zero_actor}
 use Rattle.sys_seat.specs.Seat.{Around, holding}
-use Rattle.sys_rows.specs.Rows.{fresh_row}
+use Rattle.sys_rows.specs.Rows.{fresh_rows}
 use Rattle.sys_rows.proofs.Fresh.{fresh-laid, zero-laid, fresh-actor}
 use Rattle.sys_layout.proofs.Back.{no-rules, read-actor, read-laid}
-use Rattle.sys_moves.specs.Views.{Rows, rows_of, actor_at, sys_at, Fine}
+use Rattle.sys_moves.specs.Views.{Rows, rows_in, actor_at, sys_at, Fine}
 use Rattle.sys_moves.specs.Views as moves
 use Rattle.sys_system.specs.declared.System.{System}
 use Rattle.sys_system.specs.Views.{seated, system_of, table_for}
 use Rattle.sys_answered.specs.declared.Answered.{Answered}
 use Rattle.sys_answered.specs.Views.{answered_of}
-use Rattle.sys_start.specs.declared.Woken.{Woken}
 use Rattle.sys_start.specs.Views.{tables_view, sys_on, waking, Wakes, Awaiting, asleep, waking_all}
 
 -- ---- the rules' wakes without commands and events
@@ -65,50 +63,47 @@ unfolding wake_all
 wakes-cons c i a more s = wakes-bound c i more (woken c (record { 0 = i }) s)
 
 -- ---- one actor, on fresh rows
-module _ (k : Kind) (used n : ℕ) (cs : List (List ℕ)) (p q : List (List ℕ)) (net : NetReady k cs used n) (room : length cs ≡ most_entries)
-    (pends : length p ≡ most_pending) (stores : length q ≡ most_pending) where
+module _ (k : Kind) (used n : ℕ) (cs : List (List ℕ)) (net : NetReady k cs used n) (room : length cs ≡ most_entries) where
   abbrev x : Rows
-  x = rows_of cs fresh_row p (replicate row_size 0) q
+  x = rows_in cs fresh_rows
 
   pub fresh-fine : Fine k used n x
-  fresh-fine = record { net = net; room = room; live = fresh-laid p pends; kept = zero-laid q stores }
+  fresh-fine = record { net = net; room = room; live = fresh-laid fresh_rows.pend refl; kept = zero-laid fresh_rows.stored refl }
 
   module _ (t : Table) (me : Id) (rs : List Rule) (same : rs ≡ rules_of t) (s : Sent) (y : Rows)
       (w : (count : ℕ) → moves.Woken count me rs k used n x s y) where
     -- The actor that the rows are is the unstarted one.
-    came : (hall : Around me) (last : LastMessage) → sys_at me hall k last used rs x ≡ holding me hall (net_of k last cs used) (unstarted (rules_of t))
+    came : (hall : Around me) (last : Option Envelope) → sys_at me hall k last used rs x ≡ holding me hall (net_of k last cs used) (unstarted (rules_of t))
     came hall last =
-        let e = fresh-actor rs p (replicate row_size 0) q refl ∙ ap unstarted same in
+        let e = fresh-actor rs fresh_rows.pend fresh_rows.kept fresh_rows.stored refl ∙ ap unstarted same in
         λ j. holding me hall (net_of k last cs used) (e j)
 
-    wakes-here : (hall : Around me) (last : LastMessage) → waking me hall (net_of k last cs used) t
+    wakes-here : (hall : Around me) (last : Option Envelope) → waking me hall (net_of k last cs used) t
         ≡ systems (bind (wake base.limits me (sys_at me hall k last used rs x)) (perform (room_of cs)))
     wakes-here hall last =
         let e = came hall last in
         λ j. systems (bind (wake base.limits me (sym e j)) (perform (record { entries = sym room j; copies = base.room.copies })))
 
-    module _ (r : Woken) (sent : r.sent ≡ s) (own : r.actor ≡ actor_as (actor_at [] y)) where
-      actor-is : r.actor ≡ actor_as (actor_at rs y)
+    module _ (b : Actor) (own : b ≡ actor_as (actor_at [] y)) where
+      actor-is : b ≡ actor_as (actor_at rs y)
       actor-is = own ∙ no-rules rs y.live y.pend y.kept y.stored
 
-      left : (hall : Around me) (last : LastMessage)
-          → sys_at me hall k last s.used rs y ≡ holding me hall (net_of k last y.cells r.sent.used) (seated t r.actor)
+      left : (hall : Around me) (last : Option Envelope)
+          → sys_at me hall k last s.used rs y ≡ holding me hall (net_of k last y.cells s.used) (seated t b)
       left hall last =
           let f = sym (ap (seated t) actor-is ∙ ap (λ (l : List Rule). actor_view l (actor_as (actor_at rs y))) (sym same)
           ∙ read-actor rs y.live y.pend y.kept y.stored) in
-          λ j. holding me hall (net_of k last y.cells (sym sent j).used) (f j)
+          λ j. holding me hall (net_of k last y.cells s.used) (f j)
 
-      pub wakes : Wakes k used t me cs r y.cells
+      pub wakes : Wakes k used t me cs s b y.cells
       wakes =
           let f = (w 0).fine in
-          let e : is_done r.sent.answer ≡ is_done s.answer = ap (λ (z : Sent). is_done z.answer) sent in
           record {
-            net = subst (λ (z : Sent). NetReady k y.cells z.used z.len) (sym sent) f.net;
+            net = f.net;
             room = f.room;
             actor = subst ActorLaid (sym actor-is) (read-laid rs y.live y.pend y.kept y.stored);
-            runs = λ h hall last. wakes-here hall last ∙ (w (length hall.sys.actors)).runs (sym e ∙ h) hall refl last ∙ ap done (left hall last);
-            stops = λ h hall last. wakes-here hall last ∙ (w (length hall.sys.actors)).stops (sym e ∙ h) hall refl last
-                ∙ ap (λ (z : Sent). refused (answer_number z.answer)) (sym sent);
+            runs = λ h hall last. wakes-here hall last ∙ (w (length hall.sys.actors)).runs h hall refl last ∙ ap done (left hall last);
+            stops = λ h hall last. wakes-here hall last ∙ (w (length hall.sys.actors)).stops h hall refl last;
           }
 
 -- ---- lists
@@ -207,33 +202,33 @@ module _ (k : Kind) (cs₀ : List (List ℕ)) (used₀ n₀ count : ℕ) (tables
     held : (m : Net) (b : rules.Actor) → holding me hall m b ≡ record { net = m; actors = (g.bs ++ b ∷ []) ++ rest }
     held m b = λ j. record { net = m; actors = placed b j }
 
-    own : holding me hall (net_of k Nothing cs used) fresh ≡ here
+    own : holding me hall (net_of k None cs used) fresh ≡ here
     own =
-        held (net_of k Nothing cs used) fresh
+        held (net_of k None cs used) fresh
         ∙ ap (sys_on k cs used) (append_assoc g.bs (fresh ∷ []) rest ∙ ap (λ (l : List rules.Actor). g.bs ++ l) (sym split))
 
     abbrev onward : Sys → Outcome Sys
     onward s = systems (wake_all base (suc i) rest s)
 
-    next : waking_all k cs₀ used₀ count tables ≡ bind (waking me hall (net_of k Nothing cs used) t) onward
+    next : waking_all k cs₀ used₀ count tables ≡ bind (waking me hall (net_of k None cs used) t) onward
     next =
         g.same ∙ ap (λ (l : List rules.Actor). systems (wake_all base i l here)) split
         ∙ wakes-cons base i fresh rest here ∙ ap (λ (s : Sys). bind (systems (woken base me s)) onward) (sym own)
 
-    module _ (r : Woken) (cs' : List (List ℕ)) (w : Wakes k used t me cs r cs') where
-      pub wakes-stop : is_done r.sent.answer ≡ false
-          → ◌≡◌ {A = Answered} (record { answer = r.sent.answer; system = system_of blank })
+    module _ (r : Sent) (o : Actor) (cs' : List (List ℕ)) (w : Wakes k used t me cs r o cs') where
+      pub wakes-stop : is_done r.answer ≡ false
+          → ◌≡◌ {A = Answered} (record { answer = r.answer; system = system_of blank })
           (answered_of (system_of blank) (waking_all k cs₀ used₀ count tables))
       unfolding bind
       wakes-stop f =
-          let v = number-answer r.sent.answer in
+          let v = number-answer r.answer in
           (λ j. record { answer = sym v j; system = system_of blank })
-          ∙ sym (ap (answered_of (system_of blank)) (next ∙ ap (λ (o : Outcome Sys). bind o onward) (w.stops f hall Nothing)))
+          ∙ sym (ap (answered_of (system_of blank)) (next ∙ ap (λ (o : Outcome Sys). bind o onward) (w.stops f hall None)))
 
       abbrev b : rules.Actor
-      b = seated t r.actor
+      b = seated t o
 
-      pub wakes-go : is_done r.sent.answer ≡ true → Along cs' r.sent.used r.sent.len (set actors i r.actor) (suc i)
+      pub wakes-go : is_done r.answer ≡ true → Along cs' r.used r.len (set actors i o) (suc i)
       unfolding bind
       wakes-go e =
           let m = g.many in
@@ -245,20 +240,20 @@ module _ (k : Kind) (cs₀ : List (List ℕ)) (used₀ n₀ count : ℕ) (tables
             net = w.net;
             room = w.room;
             structs =
-                ap (λ (l : List Actor). set l i r.actor) g.structs
-                ∙ ap (λ (j : ℕ). set (pad most_actors zero_actor (map actor_as g.bs)) j r.actor) (sym v)
-                ∙ append-pad most_actors (map actor_as g.bs) r.actor zero_actor (omega arith)
+                ap (λ (l : List Actor). set l i o) g.structs
+                ∙ ap (λ (j : ℕ). set (pad most_actors zero_actor (map actor_as g.bs)) j o) (sym v)
+                ∙ append-pad most_actors (map actor_as g.bs) o zero_actor (omega arith)
                 ∙ ap (pad most_actors zero_actor) (ap (λ (y : Actor). map actor_as g.bs ++ y ∷ []) w.actor
                 ∙ sym (map-append actor_as g.bs (b ∷ [])));
             owns = map-append table_for g.bs (b ∷ []) ∙ ap₂ (λ (l : List Table) (u : Table). l ++ u ∷ []) g.owns (sym (a.laid t own_in))
                 ∙ sym (take-suc tables i z (omega arith));
-            same = next ∙ ap (λ (o : Outcome Sys). bind o onward) (w.runs e hall Nothing ∙ ap done (held (net_of k Nothing cs' r.sent.used) b));
+            same = next ∙ ap (λ (o : Outcome Sys). bind o onward) (w.runs e hall None ∙ ap done (held (net_of k None cs' r.used) b));
           }
 
   -- After the last.
   module _ (cs : List (List ℕ)) (used n : ℕ) (actors : List Actor) (i : ℕ) (g : Along cs used n actors i) (most : count ≤ i) (least : i ≤ count) where
     abbrev whole : System
-    whole = record { count = count; network = read_back k cs used Nothing; actors = actors; tables = pad most_actors zero_table (take count tables) }
+    whole = record { count = count; network = read_back k cs used None; actors = actors; tables = pad most_actors zero_table (take count tables) }
 
     ends : waking_all k cs₀ used₀ count tables ≡ done (sys_on k cs used g.bs)
     unfolding wake_all ended systems
@@ -271,7 +266,7 @@ module _ (k : Kind) (cs₀ : List (List ℕ)) (used₀ n₀ count : ℕ) (tables
     whole_is : whole ≡ system_of (sys_on k cs used g.bs)
     whole_is =
         let c : count ≡ length g.bs = let m = g.many in omega arith in
-        let u = read_is g.net g.room Nothing in
+        let u = read_is g.net g.room None in
         let e : count ≡ i = omega arith in
         let o = ap (pad most_actors zero_table) (ap (λ (j : ℕ). take j tables) e ∙ sym g.owns) in
         λ j. record { count = c j; network = u j; actors = g.structs j; tables = o j }

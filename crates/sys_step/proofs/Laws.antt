@@ -14,7 +14,7 @@ use Rattle.lists.proofs.Places.{length-pad, get-any}
 use Rattle.sys_act.proofs.Acts.{seat-in}
 use Rattle.types.specs.declared.Id.{Id}
 use Rattle.types.specs.declared.Action.{Action}
-use Rattle.answers.specs.declared.Answer.TheVariants.{Done}
+use Rattle.answers.specs.Answers.{Done}
 use Rattle.answers.specs.Answers.{answer_number, answer_of, is_done}
 use Rattle.answers.proofs.Numbers.{number-answer}
 use Rattle.rules.specs.Outcome.{Outcome, done, refused, guard, base}

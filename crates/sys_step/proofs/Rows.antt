@@ -13,8 +13,8 @@ use Rattle.types.specs.declared.Kind.{Kind}
 use Rattle.types.specs.declared.Rule.{Rule}
 use Rattle.types.specs.declared.Action.{Action}
 use Rattle.types.specs.declared.Action.TheVariants.{Deliver}
-use Rattle.types.specs.declared.LastMessage.{LastMessage}
-use Rattle.answers.specs.declared.Answer.{Answer}
+use Rattle.std.specs.Prelude.{Option}
+use Rattle.answers.specs.Answers.{Answer}
 use Rattle.answers.specs.Answers.{answer_number, is_done}
 use Rattle.rules.specs.Outcome.{done, refused, base}
 use Rattle.rules.specs.Network.{Net, len}
@@ -34,22 +34,23 @@ use Rattle.link_inner.specs.Views.{rules_of}
 use Rattle.sys_actor.specs.declared.Actor.{Actor}
 use Rattle.sys_actor.specs.Views.{actor_view, actor_as, ActorLaid}
 use Rattle.sys_seat.specs.Seat.{Around, holding}
+use Rattle.sys_rows.specs.declared.ActorRows.{ActorRows}
 use Rattle.sys_layout.specs.Views as actor
 use Rattle.sys_layout.proofs.Back.{no-rules, read-actor, read-laid}
-use Rattle.sys_moves.specs.Views.{Rows, rows_of, actor_at, sys_at, caps_of, Fine, Stepped, last_then}
+use Rattle.sys_moves.specs.Views.{Rows, rows_in, actor_at, sys_at, caps_of, Fine, Stepped, last_then}
 use Rattle.sys_act.specs.Seats.{seat_of}
 use Rattle.sys_system.specs.Views.{seated}
 use Rattle.sys_step.specs.declared.Touched.{Touched}
 use Rattle.sys_step.specs.Views.{acting, Touches}
 
 -- ---- the last message
-pub delivered-last : (k : Kind) (l : LastMessage) {a : Action} {e : Envelope} {r : LastMessage} → a ≡ Deliver e → r ≡ last_after k e l
+pub delivered-last : (k : Kind) (l : Option Envelope) {a : Action} {e : Envelope} {r : Option Envelope} → a ≡ Deliver e → r ≡ last_after k e l
     → r ≡ last_then k a l
 unfolding last_then
 delivered-last k l {a} {e} {r} d f = f ∙ rw d
 
 -- ---- the cells, laid back
-module _ {kind : Kind} {used n : ℕ} {x : Rows} (fine : Fine kind used n x) (last : LastMessage) where
+module _ {kind : Kind} {used n : ℕ} {x : Rows} (fine : Fine kind used n x) (last : Option Envelope) where
   abbrev sent : Net
   sent = net_of kind last x.cells used
 
@@ -68,10 +69,10 @@ module _ {kind : Kind} {used n : ℕ} {x : Rows} (fine : Fine kind used n x) (la
 
 -- ---- the action on the rows
 module _ (count : ℕ) (n : Network) (b : Actor) (t : Table) (ready : NetReady n) (cs : List (List ℕ)) (out : LaidOut (entry_list n) cs)
-    (w : List ℕ) (p : List (List ℕ)) (k : List ℕ) (q : List (List ℕ)) (laid : actor.LaidOut b w p k q) (size : ℕ)
+    (own : ActorRows) (laid : actor.LaidOut b own) (size : ℕ)
     (sum : size ≡ len (entry_list n)) where
   abbrev x : Rows
-  x = rows_of cs w p k q
+  x = rows_in cs own
 
   pub fine-rows : Fine n.kind n.used size x
   fine-rows = record { net = cells-ready n ready cs out size sum; room = cells-room n ready cs out; live = laid.live; kept = laid.kept }
@@ -81,7 +82,7 @@ module _ (count : ℕ) (n : Network) (b : Actor) (t : Table) (ready : NetReady n
     abbrev me : Id
     me = seat_of count a
 
-    abbrev last : LastMessage
+    abbrev last : Option Envelope
     last = last_then n.kind a n.last
 
     caps : caps_of cs ≡ base
@@ -97,12 +98,12 @@ module _ (count : ℕ) (n : Network) (b : Actor) (t : Table) (ready : NetReady n
     acts hall = sym (λ i. systems (act (caps i) (came hall i) a))
 
     module _ (z : Touched) (answer : z.answer ≡ r.answer) (net : z.network ≡ read_back n.kind y.cells r.used last)
-        (own : z.actor ≡ actor_as (actor_at [] y)) where
+        (laid_back : z.actor ≡ actor_as (actor_at [] y)) where
       network-is : z.network ≡ network_of (net_of n.kind last y.cells r.used)
       network-is = net ∙ read_is step.fine.net step.fine.room last
 
       actor-is : z.actor ≡ actor_as (actor_at rs y)
-      actor-is = own ∙ no-rules rs y.live y.pend y.kept y.stored
+      actor-is = laid_back ∙ no-rules rs y.live y.pend y.kept y.stored
 
       left : (hall : Around me)
           → sys_at me hall n.kind last r.used rs y ≡ holding me hall (net_view z.network) (seated t z.actor)

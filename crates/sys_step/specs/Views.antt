@@ -4,7 +4,7 @@ use Rattle.std.specs.Prelude.{ℕ, ◌≤◌, ◌≡◌, true, false, length, se
 use Rattle.types.specs.Capacities.{most_actors, last_state}
 use Rattle.lists.specs.Lists.{choose}
 use Rattle.types.specs.declared.Action.{Action}
-use Rattle.answers.specs.declared.Answer.TheVariants.{Done}
+use Rattle.answers.specs.Answers.{Done}
 use Rattle.answers.specs.Answers.{answer_number, is_done}
 use Rattle.rules.specs.Outcome.{Outcome, done, refused, guard, base}
 use Rattle.rules.specs.System.{Sys, systems, act}

@@ -11,9 +11,8 @@ ghost use Rattle.sys_system.specs.Views.{sys_view};
 ghost use Rattle.sys_answered.specs.Views.{Ready, answered_of};
 ghost use Rattle.sys_step.specs.Views.{Touchable, Touches, put_touched, step_of};
 
-use answers::{Answer, is_done};
+use answers::{Answer, Refusal, is_done};
 use link_inner::Table;
-use link_rows::{RECORD, ROW};
 use link_table_rows::rows_of;
 use net_layout::cells_of;
 use net_network::{Network, last_after, read_back};
@@ -22,8 +21,9 @@ use sys_actor::Actor;
 use sys_answered::Answered;
 use sys_formed::well_formed;
 use sys_layout::{actor_of, lay_out};
+use sys_rows::{ActorRows, NetRows, TableRows};
 use sys_system::System;
-use types::{Action, Kind, LastMessage, MOST_PENDING};
+use types::{Action, Envelope, Kind};
 
 // What an action leaves of network and actor. Where the answer is not Done, they are not to be used.
 #[derive(Clone, Copy)]
@@ -34,15 +34,12 @@ struct Touched {
 }
 
 // The last message after an action that is done: on the duplicating kind a Deliver sets it.
-fn last_then(kind: Kind, a: Action, last: LastMessage) -> LastMessage
+fn last_then(kind: Kind, a: Action, last: Option<Envelope>) -> Option<Envelope>
     ensures { result ≡ last_then kind a last }
 {
     match a {
         Action::Deliver(e) => last_after(kind, e, last),
-        Action::Drop(_) => last,
-        Action::Timeout(_, _) => last,
-        Action::Crash(_) => last,
-        Action::Recover(_) => last,
+        Action::Drop(_) | Action::Timeout(_, _) | Action::Crash(_) | Action::Recover(_) => last,
     }
 }
 
@@ -51,39 +48,26 @@ fn touch(count: usize, n: Network, b: Actor, t: Table, a: Action) -> Touched
     requires { Touchable count n b t }
     ensures { Touches count a n b t result }
 {
-    let mut live = [0u64; ROW];
-    let mut pend = [[0u64; RECORD]; MOST_PENDING];
-    let mut kept = [0u64; ROW];
-    let mut stored = [[0u64; RECORD]; MOST_PENDING];
-    lay_out(b, &mut live, &mut pend, &mut kept, &mut stored);
-    let rules = rows_of(t);
-    let len = net_network::len(n);
-    let es = n.entries;
-    let mut cells = cells_of(es, n.used);
+    let mut own = ActorRows::fresh();
+    lay_out(b, &mut own);
+    let table = TableRows {
+        rows: rows_of(t),
+        used: t.used,
+    };
     let kind = n.kind;
-    let s = act(
-        &mut cells,
-        &mut live,
-        &mut pend,
-        &mut kept,
-        &mut stored,
-        &rules,
-        t.used,
+    let mut net = NetRows {
+        cells: cells_of(n.entries, n.used),
         kind,
-        n.used,
-        len,
-        count,
-        a,
-    );
-    let answer = s.answer;
+        used: n.used,
+        len: net_network::len(n),
+    };
+    let answer = act(&mut net, &mut own, &table, count, a);
     let before = n.last;
     let last = last_then(kind, a, before);
-    let network = read_back(kind, &cells, s.used, last);
-    let actor = actor_of(&live, &pend, &kept, &stored);
     Touched {
-        answer: answer,
-        network: network,
-        actor: actor,
+        answer,
+        network: read_back(kind, &net.cells, net.used, last),
+        actor: actor_of(&own),
     }
 }
 
@@ -94,25 +78,14 @@ fn put_back(s: System, i: usize, t: Touched) -> Answered
 {
     let answer = t.answer;
     if !is_done(answer) {
-        return Answered {
-            answer: answer,
-            system: s,
-        };
+        return Answered { answer, system: s };
     }
-    let count = s.count;
-    let network = t.network;
-    let actor = t.actor;
-    let tables = s.tables;
-    let mut actors = s.actors;
-    actors[i] = actor;
+    let mut system = s;
+    system.network = t.network;
+    system.actors[i] = t.actor;
     Answered {
-        answer: Answer::Done,
-        system: System {
-            count: count,
-            network: network,
-            actors: actors,
-            tables: tables,
-        },
+        answer: Ok(()),
+        system,
     }
 }
 
@@ -121,14 +94,8 @@ fn act_on(s: System, a: Action) -> Answered
     requires { Ready s }
     ensures { result ≡ answered_of s (systems (act base (sys_view s) a)) }
 {
-    let count = s.count;
-    let i = seat(count, a);
-    let network = s.network;
-    let actors = s.actors;
-    let tables = s.tables;
-    let actor = actors[i];
-    let table = tables[i];
-    let t = touch(count, network, actor, table, a);
+    let i = seat(s.count, a);
+    let t = touch(s.count, s.network, s.actors[i], s.tables[i], a);
     put_back(s, i, t)
 }
 
@@ -138,7 +105,7 @@ pub fn step(s: System, a: Action) -> Answered
 {
     if !well_formed(s) {
         return Answered {
-            answer: Answer::NotWellFormed,
+            answer: Err(Refusal::NotWellFormed),
             system: s,
         };
     }

@@ -20,6 +20,7 @@ use Rattle.link_inner.specs.contracts.Table as table
 use Rattle.sys_actor.specs.declared.Actor.{Actor}
 use Rattle.sys_actor.specs.contracts.Actor as actor
 use Rattle.sys_actor.proofs.Laws.{Typed}
+use Rattle.sys_actor.proofs.Says.{actor-says}
 use Rattle.sys_system.specs.declared.System.{System}
 use Rattle.sys_system.specs.contracts.System as system
 
@@ -51,17 +52,6 @@ table-says t u g = record {
   slots = each-says (rule.the_row).own_val (λ r. length r.commands ≡ most_commands) rule-says t.rules g.1.1.0.0
       g.1.1.0.1.1;
 }
-
-actor-says : (a : Actor) (u : List Val) → shadow ((actor.the_row).own_val a u) → Typed a
-actor-says a u g =
-    let l = g.1.1.1.1.0.1.1.0 in let s = g.1.1.1.1.1.0.1.1.1.0 in
-    record {
-      pending = search (rules, length-mapped, l.1.1.1.0);
-      taken = search (rules, length-mapped, l.1.1.1.1.0);
-      stored-pending = search (rules, length-mapped, s.1.1.1.0);
-      stored-taken = search (rules, length-mapped, s.1.1.1.1.0);
-      word = search (rules, g.1.1.1.0);
-    }
 
 pub system-says : (s : System) (u : List Val) → shadow ((row system.the_type).own_val s u) → SystemTyped s
 system-says s u g = record {

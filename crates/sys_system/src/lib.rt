@@ -11,6 +11,7 @@ use sys_actor::{Actor, zero_actor};
 use types::{Kind, MOST_ACTORS};
 
 // The first `count` actors are in use, each with the table at its place. Actors and tables from the count on are zero.
+// Two arrays and not one of pairs: a step changes actors alone, and a start is lent an array of tables.
 #[derive(Clone, Copy)]
 pub struct System {
     pub count: usize,

@@ -14,11 +14,11 @@ use Rattle.types.specs.declared.Id.{Id}
 use Rattle.types.specs.declared.Kind.{Kind}
 use Rattle.types.specs.declared.Rule.{Rule}
 use Rattle.types.specs.declared.Pending.{Pending}
-use Rattle.types.specs.declared.LastMessage.{LastMessage}
+use Rattle.std.specs.Prelude.{Option}
 use Rattle.types.specs.declared.Message.TheVariants.{Deliver}
 use Rattle.types.specs.declared.InnerCommand.{InnerCommand}
 use Rattle.types.specs.declared.Action.TheVariants.{Timeout}
-use Rattle.answers.specs.declared.Answer.TheVariants.{Done, Ignored, OutOfRange, NotSet}
+use Rattle.answers.specs.Answers.{Done, Ignored, OutOfRange, NotSet}
 use Rattle.answers.specs.Answers.{is_done}
 use Rattle.rules.specs.Outcome.{Outcome, done, refused, bind, Room}
 use Rattle.rules.specs.Inner.{reply, ignored, nobody}
@@ -45,6 +45,7 @@ use Rattle.sys_moves.specs.Views.{Rows, caps_of, actor_at, sys_at, reacting, Fin
 use Rattle.sys_moves.proofs.Laws.{places-are}
 use Rattle.sys_moves.proofs.Ends.{ended_by, ended-refused}
 use Rattle.sys_timeout.proofs.Timed.{far-is, unset-is, timed-is, idle-is, quiet_is, resends-are}
+use Rattle.types.specs.declared.Envelope.{Envelope}
 
 -- ---- the timers without one of them, as a word
 pub cut_small : (x : Timers) (t : ℕ) → (cancel_of x t).timers.0 < 4294967296
@@ -163,7 +164,7 @@ module _ (me : Id) (count : ℕ) (rs : List Rule) (kind : Kind) (used n : ℕ) (
     counted : length ps ≡ get_or x.live 1 0
     counted = let a = fine.live.places in let b = fine.live.pending in places-are x.live x.pend (omega arith)
 
-    abbrev start : Around me → LastMessage → Sys
+    abbrev start : Around me → Option Envelope → Sys
     start hall last = sys_at me hall kind last used rs x
 
     -- All of them are sent.
@@ -171,12 +172,12 @@ module _ (me : Id) (count : ℕ) (rs : List Rule) (kind : Kind) (used n : ℕ) (
     unfolding durable_in
     all-sent = let a = fine.live.pending in let b = counted in let c = resent-length ps in take_all most_pending (resent ps) (omega arith)
 
-    as-run : (hall : Around me) (last : LastMessage) → systems (act (caps_of x.cells) (start hall last) (Timeout me network))
+    as-run : (hall : Around me) (last : Option Envelope) → systems (act (caps_of x.cells) (start hall last) (Timeout me network))
         ≡ run_commands (room_of x.cells) me (resent ps) (start hall last)
     as-run hall last = let z = counted in let f = first_of ps (omega arith) in resends-are me kind x used rs hall last is_set f.0 f.1 f.2
 
     -- In a system that holds the rows.
-    ran : (hall : Around me) (last : LastMessage) (o : Outcome Sys)
+    ran : (hall : Around me) (last : Option Envelope) (o : Outcome Sys)
         → run_commands (room_of x.cells) me (take most_pending (resent (map pending_in (take (get_or x.live 1 0) x.pend))))
         (sys_in me hall kind last x.cells used (get_or x.live 6 0) (actor_at rs x)) ≡ o
         → run_commands (room_of x.cells) me (resent ps) (start hall last) ≡ o

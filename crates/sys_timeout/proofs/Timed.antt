@@ -14,7 +14,7 @@ use Rattle.types.specs.declared.Id.{Id}
 use Rattle.types.specs.declared.Kind.{Kind}
 use Rattle.types.specs.declared.Rule.{Rule}
 use Rattle.types.specs.declared.Pending.{Pending}
-use Rattle.types.specs.declared.LastMessage.{LastMessage}
+use Rattle.std.specs.Prelude.{Option}
 use Rattle.types.specs.declared.Action.TheVariants.{Timeout}
 use Rattle.types.specs.declared.InnerCommand.{InnerCommand}
 use Rattle.rules.specs.Outcome.{Outcome, done, refused, bind, guard, ignored_if}
@@ -33,6 +33,7 @@ use Rattle.sys_seat.proofs.Actions.{bind-bind, bind-same, seat-timeout}
 use Rattle.sys_reacts.specs.Views.{limits_of}
 use Rattle.sys_rows.specs.Rows.{actor_of}
 use Rattle.sys_moves.specs.Views.{Rows, caps_of, actor_at, sys_at, actor_with, running, reacting}
+use Rattle.types.specs.declared.Envelope.{Envelope}
 
 -- ---- Network, the last timer, cancelled and set again: the list is the same
 again : (lo : ℕ) (ts : List ℕ) → Ascends lo bits ts → any (eqb network) ts ≡ true
@@ -60,7 +61,7 @@ more-than : (ps : List Pending) (q : Pending) (qs : List Pending) → ps ≡ q �
 unfolding only_sets resent
 more-than ps q qs e = rw e
 
-module _ (me : Id) (kind : Kind) (x : Rows) (used : ℕ) (rs : List Rule) (hall : Around me) (last : LastMessage) where
+module _ (me : Id) (kind : Kind) (x : Rows) (used : ℕ) (rs : List Rule) (hall : Around me) (last : Option Envelope) where
   abbrev w : List ℕ
   w = x.live
 

@@ -1,114 +1,69 @@
 // A Timeout on lent rows. The Network timer sends again what is pending; a user's timer goes, and its rule's commands are run.
 #![tactic(auto)]
 
-ghost use Rattle.std.specs.Prelude.{◌≡◌, true, List, ℕ, ◌<◌, length, get_or};
-ghost use Rattle.types.specs.Capacities.{most_entries, network};
+ghost use Rattle.std.specs.Prelude.{◌≡◌, true, List, ℕ, ◌<◌, get_or};
+ghost use Rattle.types.specs.Capacities.{network};
 ghost use Rattle.types.specs.declared.Rule.{Rule};
 ghost use Rattle.types.specs.declared.Action.TheVariants.{Timeout};
 ghost use Rattle.rules.specs.Timers.{is_set};
 ghost use Rattle.link_timers.specs.Views.{listed};
-ghost use Rattle.net_rows.specs.Views.{NetReady};
-ghost use Rattle.link_tables.specs.Rows.{TableLaid, rules_in};
-ghost use Rattle.sys_rows.specs.Rows.{RowsLaid};
-ghost use Rattle.sys_moves.specs.Views.{rows_of, Fine, Stepped};
+ghost use Rattle.sys_rows.specs.Rows.{listed_rules, RulesLaid};
+ghost use Rattle.sys_moves.specs.Views.{FineIn, SteppedIn};
 
-use answers::Answer;
-use link_rows::{RECORD, ROW};
+use answers::{Answer, Refusal};
 use link_tables::deciding;
 use link_timers::Timers;
-use net_rows::Sent;
 use sys_moves::by_rule;
 use sys_resends::resend_all;
-use types::{Id, Kind, MOST_ENTRIES, MOST_PENDING, MOST_RULES, NETWORK};
+use sys_rows::{ActorRows, NetRows, TableRows};
+use types::{Id, MOST_PENDING, NETWORK};
 
 // The Network timer, which is set: ignored with nothing pending, else every pending message is sent again. It is set afterwards as before.
-fn on_network(
-    c: &mut [[u64; 4]; MOST_ENTRIES],
-    live: &[u64; ROW],
-    pend: &[[u64; RECORD]; MOST_PENDING],
-    kind: Kind,
-    used: usize,
-    len: u64,
-    me: Id,
-) -> Sent
-    requires { NetReady kind c.old used len × (length c.old ≡ most_entries) × RowsLaid live.now pend.now
-        × (is_set network (listed (get_or live.now 6 0)) ≡ true) }
-    ensures { (count : ℕ) (rs : List Rule) (k : List ℕ) (q : List (List ℕ)) → RowsLaid k q
-        → Stepped count (Timeout me network) me rs kind used len (rows_of c.old live.now pend.now k q)
-        result (rows_of c.new live.now pend.now k q) }
+fn on_network(net: &mut NetRows, actor: &ActorRows, me: Id) -> Answer
+    requires { FineIn net.old actor.now × (is_set network (listed (get_or actor.now.live 6 0)) ≡ true) }
+    ensures { (count : ℕ) (rs : List Rule) → SteppedIn count (Timeout me network) me rs net.old actor.now result net.new actor.now }
 {
-    let n = live[1] as usize;
+    let n = actor.live[1] as usize;
     if n == 0 {
-        return Sent {
-            answer: Answer::Ignored,
-            used: used,
-            len: len,
-        };
+        return Err(Refusal::Ignored);
     }
     let s = resend_all(
-        c,
-        kind,
-        used,
-        len,
-        live[6] as u32,
+        &mut net.cells,
+        net.kind,
+        net.used,
+        net.len,
+        actor.live[6] as u32,
         me,
-        pend,
+        &actor.pend,
         n,
         MOST_PENDING,
     );
-    let a = s.answer;
-    Sent {
-        answer: a,
-        used: s.used,
-        len: s.len,
-    }
+    net.used = s.used;
+    net.len = s.len;
+    s.answer
 }
 
 // A user's timer, which is set: it goes, and its rule's commands are run. The state stays as it was.
-fn on_user(
-    c: &mut [[u64; 4]; MOST_ENTRIES],
-    live: &mut [u64; ROW],
-    pend: &mut [[u64; RECORD]; MOST_PENDING],
-    kept: &mut [u64; ROW],
-    stored: &mut [[u64; RECORD]; MOST_PENDING],
-    table: &[[u64; 16]; MOST_RULES],
-    rules: usize,
-    kind: Kind,
-    used: usize,
-    len: u64,
-    me: Id,
-    timer: u8,
-) -> Sent
-    requires { Fine kind used len (rows_of c.old live.old pend.old kept.old stored.old) × TableLaid table.now rules
-        × (timer < network) × (is_set timer (listed (get_or live.old 6 0)) ≡ true) }
-    ensures { (count : ℕ) → Stepped count (Timeout me timer) me (rules_in table.now rules) kind used len
-        (rows_of c.old live.old pend.old kept.old stored.old)
-        result (rows_of c.new live.new pend.new kept.new stored.new) }
+fn on_user(net: &mut NetRows, actor: &mut ActorRows, table: &TableRows, me: Id, timer: u8) -> Answer
+    requires { FineIn net.old actor.old × RulesLaid table.now
+        × (timer < network) × (is_set timer (listed (get_or actor.old.live 6 0)) ≡ true) }
+    ensures { (count : ℕ) → SteppedIn count (Timeout me timer) me (listed_rules table.now) net.old actor.old result net.new actor.new }
 {
-    let set = live[6] as u32;
-    let state = live[7];
+    let set = actor.live[6] as u32;
+    let state = actor.live[7];
     let cut = Timers(set).cancel(timer);
     let timers = cut.timers;
     let rest = timers.0;
-    let at = deciding(table, rules, 3, state, timer as u64);
-    if rules <= at {
-        live[6] = rest as u64;
-        return Sent {
-            answer: Answer::Done,
-            used: used,
-            len: len,
-        };
+    // Event 3: a timeout.
+    let at = deciding(&table.rows, table.used, 3, state, timer as u64);
+    if table.used <= at {
+        actor.live[6] = rest as u64;
+        return Ok(());
     }
     by_rule(
-        c,
-        live,
-        pend,
-        kept,
-        stored,
-        &table[at],
-        kind,
-        used,
-        len,
+        net,
+        actor,
+        &table.rows[at],
         rest,
         me,
         Id(0),
@@ -119,42 +74,23 @@ fn on_user(
 
 // A Timeout of an actor that is there, among whatever number of them.
 pub fn timeout(
-    c: &mut [[u64; 4]; MOST_ENTRIES],
-    live: &mut [u64; ROW],
-    pend: &mut [[u64; RECORD]; MOST_PENDING],
-    kept: &mut [u64; ROW],
-    stored: &mut [[u64; RECORD]; MOST_PENDING],
-    table: &[[u64; 16]; MOST_RULES],
-    rules: usize,
-    kind: Kind,
-    used: usize,
-    len: u64,
+    net: &mut NetRows,
+    actor: &mut ActorRows,
+    table: &TableRows,
     i: Id,
     timer: u8,
-) -> Sent
-    requires { Fine kind used len (rows_of c.old live.old pend.old kept.old stored.old) × TableLaid table.now rules }
-    ensures { (count : ℕ) → Stepped count (Timeout i timer) i (rules_in table.now rules) kind used len
-        (rows_of c.old live.old pend.old kept.old stored.old)
-        result (rows_of c.new live.new pend.new kept.new stored.new) }
+) -> Answer
+    requires { FineIn net.old actor.old × RulesLaid table.now }
+    ensures { (count : ℕ) → SteppedIn count (Timeout i timer) i (listed_rules table.now) net.old actor.old result net.new actor.new }
 {
     if NETWORK < timer {
-        return Sent {
-            answer: Answer::OutOfRange,
-            used: used,
-            len: len,
-        };
+        return Err(Refusal::OutOfRange);
     }
-    if !Timers(live[6] as u32).is_set(timer) {
-        return Sent {
-            answer: Answer::NotSet,
-            used: used,
-            len: len,
-        };
+    if !Timers(actor.live[6] as u32).is_set(timer) {
+        return Err(Refusal::NotSet);
     }
     if timer == NETWORK {
-        return on_network(c, live, pend, kind, used, len, i);
+        return on_network(net, actor, i);
     }
-    on_user(
-        c, live, pend, kept, stored, table, rules, kind, used, len, i, timer,
-    )
+    on_user(net, actor, table, i, timer)
 }

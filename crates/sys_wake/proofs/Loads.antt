@@ -11,8 +11,7 @@ use lib.Dec.{ltb}
 use borrow.Author.Tests.{ltb-true, ltb-false, lt-ltb, le-ltb}
 use Rattle.lists.specs.Lists.{choose}
 use Rattle.types.specs.Capacities.{most_pending}
-use Rattle.types.specs.declared.Storage.{Storage}
-use Rattle.types.specs.declared.Storage.TheVariants.{Nothing, Value}
+use Rattle.std.specs.Prelude.{Option, Some, None}
 use Rattle.rules.specs.Inner.{Reply, at_start, nobody}
 use Rattle.rules.specs.Link.{fresh, durable_of}
 use Rattle.link_tables.specs.Rows.{RowLaid, TableLaid, orders, rules_in, start_event, start_value}
@@ -143,7 +142,7 @@ pub record Starts (a : Reply) (r : List ℕ) (value : ℕ) : Type 0 where
   pub out : a.out ≡ orders r nobody value
   pub state : a.state ≡ get_or r 4 0
 
-module _ (t : List (List ℕ)) (rules : ℕ) (laid : TableLaid t rules) (s : Storage) where
+module _ (t : List (List ℕ)) (rules : ℕ) (laid : TableLaid t rules) (s : Option ℕ) where
   abbrev at : ℕ
   at = start_place t rules (start_event s) (start_value s)
 
@@ -170,15 +169,15 @@ module _ (t : List (List ℕ)) (rules : ℕ) (laid : TableLaid t rules) (s : Sto
 
 -- ---- its event and its value, in a row
 module _ (w : List ℕ) where
-  saved-none : get_or w 2 0 ≡ 0 → saved_in w ≡ Nothing
+  saved-none : get_or w 2 0 ≡ 0 → saved_in w ≡ None
   unfolding storage_in
   saved-none e = rw e
 
-  saved-some : (get_or w 2 0 ≡ 0 → ⊥) → saved_in w ≡ Value (get_or w 3 0)
+  saved-some : (get_or w 2 0 ≡ 0 → ⊥) → saved_in w ≡ Some (get_or w 3 0)
   unfolding storage_in
   saved-some n = go (get_or w 2 0) n
     where
-      go : (m : ℕ) → (m ≡ 0 → ⊥) → storage_in m (get_or w 3 0) ≡ Value (get_or w 3 0)
+      go : (m : ℕ) → (m ≡ 0 → ⊥) → storage_in m (get_or w 3 0) ≡ Some (get_or w 3 0)
       go zero n = absurd (n refl)
       go (suc m) n = refl
 
@@ -198,10 +197,10 @@ module _ (w : List ℕ) where
   unfolding start_value
   value-some n = rw (saved-some n)
 
-pub few-events : (s : Storage) → start_event s < 4
+pub few-events : (s : Option ℕ) → start_event s < 4
 unfolding start_event
-few-events Nothing = omega arith
-few-events (Value v) = omega arith
+few-events None = omega arith
+few-events (Some v) = omega arith
 
 -- The row that is found, or that of zeros.
 module _ (t : List (List ℕ)) (rules event value at : ℕ) (found : at ≡ start_place t rules event value) where

@@ -13,9 +13,9 @@ use Rattle.types.specs.declared.Id.{Id}
 use Rattle.types.specs.declared.Kind.{Kind}
 use Rattle.types.specs.declared.Rule.{Rule}
 use Rattle.types.specs.declared.Action.TheVariants.{Recover}
-use Rattle.types.specs.declared.LastMessage.{LastMessage}
+use Rattle.std.specs.Prelude.{Option}
 use Rattle.types.specs.declared.InnerCommand.{InnerCommand}
-use Rattle.answers.specs.declared.Answer.TheVariants.{Live}
+use Rattle.answers.specs.Answers.{Live}
 use Rattle.answers.specs.Answers.{is_done}
 use Rattle.rules.specs.Outcome.{Outcome, done, refused, bind, guard}
 use Rattle.rules.specs.Inner.{Reply, at_start, nobody}
@@ -38,12 +38,13 @@ use Rattle.sys_moves.specs.Views.{caps_of, Rows, rows_of, actor_at, sys_at, runn
 use Rattle.sys_moves.proofs.Ends.{ended_by, ended-refused}
 use Rattle.sys_wake.specs.Starts.{begun, Loaded, saved_in}
 use Rattle.sys_wake.proofs.Loads.{mark-laid, Starts}
+use Rattle.types.specs.declared.Envelope.{Envelope}
 
 -- A start of the rules on the actor that the rows are.
-abbrev pub waking : (me : Id) → Kind → ℕ → List Rule → Rows → Around me → LastMessage → Outcome Sys
+abbrev pub waking : (me : Id) → Kind → ℕ → List Rule → Rows → Around me → Option Envelope → Outcome Sys
 waking me kind used rs x hall last = systems (bind (wake (limits_of most_pending) me (sys_at me hall kind last used rs x)) (perform (room_of x.cells)))
 
-module _ (me : Id) (kind : Kind) (used : ℕ) (rs : List Rule) (hall : Around me) (last : LastMessage) where
+module _ (me : Id) (kind : Kind) (used : ℕ) (rs : List Rule) (hall : Around me) (last : Option Envelope) where
   -- What the seat makes of it.
   seated : (x : Rows) → waking me kind used rs x hall last
       ≡ bind (on_start (limits_of most_pending) me rs (stored_in (get_or x.kept 5 0) (durable_in x.kept x.stored))) (λ d.
@@ -126,7 +127,7 @@ module _ (count : ℕ) (me : Id) (rs : List Rule) (kind : Kind) (used n : ℕ) (
   from-fine fine = record { net = fine.net; room = fine.room; live = loaded.laid; kept = fine.kept }
 
   module _ (r : Sent) (z : Rows) (woken : Woken count me rs kind used n from r z) where
-    same : (hall : Around me) (last : LastMessage) → waking me kind used rs x hall last ≡ waking me kind used rs from hall last
+    same : (hall : Around me) (last : Option Envelope) → waking me kind used rs x hall last ≡ waking me kind used rs from hall last
     same hall last = waking-same me kind used rs hall last x v y loaded.crashed loaded.timers
 
     pub woken-done : is_done r.answer ≡ true → Woken count me rs kind used n x r z
@@ -160,11 +161,11 @@ module _ (count : ℕ) (i : Id) (rs : List Rule) (kind : Kind) (used n : ℕ) (x
   abbrev w : List ℕ
   w = x.live
 
-  abbrev recovering : Around i → LastMessage → Outcome Sys
+  abbrev recovering : Around i → Option Envelope → Outcome Sys
   recovering hall last = systems (act (caps_of x.cells) (sys_at i hall kind last used rs x) (Recover i))
 
   -- It is not crashed.
-  pub live-is : mark (get_or w 5 0) ≡ false → (hall : Around i) (last : LastMessage) → recovering hall last ≡ refused 4
+  pub live-is : mark (get_or w 5 0) ≡ false → (hall : Around i) (last : Option Envelope) → recovering hall last ≡ refused 4
   unfolding actor_of guard
   live-is e hall last = seat-recover (caps_of x.cells) i hall (net_of kind last x.cells used) (actor_at rs x) ∙ rw e
 
@@ -196,11 +197,11 @@ module _ (count : ℕ) (i : Id) (rs : List Rule) (kind : Kind) (used n : ℕ) (x
 
   module _ (crashed : mark (get_or w 5 0) ≡ true) where
     -- A start of this actor in its seat.
-    abbrev woken-as : Around i → LastMessage → Actor → Outcome Sys
+    abbrev woken-as : Around i → Option Envelope → Actor → Outcome Sys
     woken-as hall last a =
         systems (bind (wake (limits_of most_pending) i (holding i hall (net_of kind last x.cells used) a)) (perform (room_of x.cells)))
 
-    pub recover-is : (hall : Around i) (last : LastMessage) → recovering hall last ≡ waking i kind used rs bare hall last
+    pub recover-is : (hall : Around i) (last : Option Envelope) → recovering hall last ≡ waking i kind used rs bare hall last
     unfolding actor_of guard
     recover-is hall last =
         seat-recover (caps_of x.cells) i hall (net_of kind last x.cells used) (actor_at rs x)

@@ -1,8 +1,7 @@
 -- What a start begins from, and the row that decides it.
 -- Assumes nothing.
-use Rattle.std.specs.Prelude.{ℕ, List, [], get_or, replicate, ltb}
+use Rattle.std.specs.Prelude.{ℕ, List, [], get_or, replicate, ltb, Option}
 use Rattle.lists.specs.Lists.{choose}
-use Rattle.types.specs.declared.Storage.{Storage}
 use Rattle.rules.specs.Link.{Durable, fresh, durable_of}
 use Rattle.link_tables.specs.Rows.{rules_in, first_of}
 use Rattle.link_rows.specs.Rows.{durable_in, storage_in}
@@ -17,7 +16,7 @@ abbrev pub Loaded : List ℕ → List ℕ → List (List ℕ) → List ℕ → L
 Loaded w k q w' p' = Settled (begun k q) (get_or w 6 0) 0 w w' p'
 
 -- What the inner actor has saved.
-abbrev pub saved_in : List ℕ → Storage
+abbrev pub saved_in : List ℕ → Option ℕ
 saved_in w = storage_in (get_or w 2 0) (get_or w 3 0)
 
 -- The row of the first rule that matches a start, or one of zeros, which does nothing and leads to state 0.

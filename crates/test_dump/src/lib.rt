@@ -1,65 +1,44 @@
 // For tests only: every field of a whole system as bytes, used places or not, but for its tables. The widths are fixed, so
-// that systems which differ have different bytes.
+// that systems which differ have different bytes. Of a number the high byte comes first.
 #![tactic(auto)]
 
 ghost use Rattle.std.specs.Prelude.{◌≡◌, ◌+◌, ◌≤◌, length};
 
 use link_durable::Durable;
 use net_network::Network;
+use std::io;
+use std::io::Write;
 use sys_actor::Actor;
 use sys_system::System;
-use types::{
-    Envelope, Kind, LastMessage, MOST_ACTORS, MOST_ENTRIES, MOST_PENDING, Message, Storage,
-};
+use types::{Envelope, Kind, Message, Payload};
 
 // The bytes of a system.
 pub const SIZE: usize = 10409;
 
-// How many pieces stand for the network with the count of actors, for a durable part, and for an actor.
-const NETWORK_PIECES: usize = MOST_ENTRIES + 2;
-
-const DURABLE_PIECES: usize = MOST_PENDING + MOST_ACTORS + 3;
-
-const ACTOR_PIECES: usize = 2 * DURABLE_PIECES + 2;
-
-// Some numbers, and in how many bytes each is written.
-#[derive(Clone, Copy)]
-struct Piece {
-    n: [u64; 7],
-    width: [usize; 7],
-}
-
-// ---- the pieces of the network
-// An envelope, behind a mark and before a count, each of its own width.
-fn envelope_piece(marked: usize, e: Envelope, counted: usize, count: u64) -> Piece {
+// ---- the network
+fn write_envelope<W: Write>(out: &mut W, e: Envelope) -> io::Result<()> {
     let m = e.msg;
-    let src = e.src.0 as u64;
-    let dst = e.dst.0 as u64;
-    let width = [marked, 1, 1, 1, 8, 4, counted];
-    match m {
-        Message::Deliver(n, p) => Piece {
-            n: [1, src, dst, 0, n.0, p.0 as u64, count],
-            width: width,
-        },
-        Message::Ack(n) => Piece {
-            n: [1, src, dst, 1, n.0, 0, count],
-            width: width,
-        },
-    }
+    let (tag, number, payload) = match m {
+        Message::Deliver(n, p) => (0, n, p),
+        Message::Ack(n) => (1, n, Payload(0)),
+    };
+    out.write_all(&[e.src.0, e.dst.0, tag])?;
+    out.write_all(&number.0.to_be_bytes())?;
+    out.write_all(&payload.0.to_be_bytes())
 }
 
 // A mark, and the envelope or as many zeros.
-fn last_piece(last: LastMessage) -> Piece {
+fn write_last<W: Write>(out: &mut W, last: Option<Envelope>) -> io::Result<()> {
     match last {
-        LastMessage::Nothing => Piece {
-            n: [0; 7],
-            width: [1, 1, 1, 1, 8, 4, 0],
-        },
-        LastMessage::Delivered(e) => envelope_piece(1, e, 0, 0),
+        None => out.write_all(&[0; 16]),
+        Some(e) => {
+            out.write_all(&[1])?;
+            write_envelope(out, e)
+        }
     }
 }
 
-fn kind_number(kind: Kind) -> u64 {
+fn kind_number(kind: Kind) -> u8 {
     match kind {
         Kind::Ordered => 0,
         Kind::UnorderedDuplicating => 1,
@@ -67,155 +46,67 @@ fn kind_number(kind: Kind) -> u64 {
     }
 }
 
-// Counts, then the entries, then the last message.
-fn network_piece(count: usize, n: Network, k: usize) -> Piece {
-    let kind = n.kind;
-    let entries = n.entries;
-    let last = n.last;
-    if k == 0 {
-        return Piece {
-            n: [count as u64, kind_number(kind), n.used as u64, 0, 0, 0, 0],
-            width: [8, 1, 8, 0, 0, 0, 0],
-        };
+fn write_network<W: Write>(out: &mut W, n: &Network) -> io::Result<()> {
+    out.write_all(&[kind_number(n.kind)])?;
+    out.write_all(&n.used.to_be_bytes())?;
+    for x in &n.entries {
+        write_envelope(out, x.envelope)?;
+        out.write_all(&x.count.to_be_bytes())?;
     }
-    if MOST_ENTRIES < k {
-        return last_piece(last);
-    }
-    let x = entries[k - 1];
-    let e = x.envelope;
-    envelope_piece(0, e, 2, x.count as u64)
+    write_last(out, n.last)
 }
 
-// ---- the pieces of an actor
-fn one(n: u64) -> Piece {
-    Piece {
-        n: [n, 0, 0, 0, 0, 0, 0],
-        width: [8, 0, 0, 0, 0, 0, 0],
-    }
+// ---- the actors
+// A mark, and the value or a zero.
+fn write_storage<W: Write>(out: &mut W, x: Option<u32>) -> io::Result<()> {
+    let (mark, value) = match x {
+        None => (0, 0),
+        Some(v) => (1, v),
+    };
+    out.write_all(&[mark])?;
+    out.write_all(&value.to_be_bytes())
 }
 
-fn storage_piece(x: Storage) -> Piece {
-    let width = [1, 4, 0, 0, 0, 0, 0];
-    match x {
-        Storage::Nothing => Piece {
-            n: [0; 7],
-            width: width,
-        },
-        Storage::Value(v) => Piece {
-            n: [1, v as u64, 0, 0, 0, 0, 0],
-            width: width,
-        },
+fn write_durable<W: Write>(out: &mut W, d: &Durable) -> io::Result<()> {
+    out.write_all(&d.next.0.to_be_bytes())?;
+    out.write_all(&d.pending.used.to_be_bytes())?;
+    for q in &d.pending.places {
+        out.write_all(&q.number.0.to_be_bytes())?;
+        out.write_all(&[q.dst.0])?;
+        out.write_all(&q.payload.0.to_be_bytes())?;
     }
+    out.write_all(&d.taken.used.to_be_bytes())?;
+    for t in &d.taken.places {
+        out.write_all(&t.0.to_be_bytes())?;
+    }
+    write_storage(out, d.inner)
 }
 
-// The next number and the count of pending messages, those messages, the count of taken numbers, those numbers, the value.
-fn durable_piece(d: Durable, k: usize) -> Piece {
-    let records = d.pending.records;
-    let last = d.taken.last;
-    let inner = d.inner;
-    if k == 0 {
-        return Piece {
-            n: [d.next.0, d.pending.used as u64, 0, 0, 0, 0, 0],
-            width: [8, 8, 0, 0, 0, 0, 0],
-        };
-    }
-    if k <= MOST_PENDING {
-        let q = records[k - 1];
-        return Piece {
-            n: [q.number.0, q.dst.0 as u64, q.payload.0 as u64, 0, 0, 0, 0],
-            width: [8, 1, 4, 0, 0, 0, 0],
-        };
-    }
-    if k == MOST_PENDING + 1 {
-        return one(d.taken.used as u64);
-    }
-    if k <= MOST_PENDING + 1 + MOST_ACTORS {
-        let t = last[k - MOST_PENDING - 2];
-        return one(t.0);
-    }
-    storage_piece(inner)
+// The live part stands before the stored one.
+fn write_actor<W: Write>(out: &mut W, x: &Actor) -> io::Result<()> {
+    out.write_all(&[u8::from(x.crashed)])?;
+    out.write_all(&x.timers.0.to_be_bytes())?;
+    write_durable(out, &x.link.durable)?;
+    out.write_all(&[x.link.state, u8::from(x.stored.some)])?;
+    write_durable(out, &x.stored.durable)
 }
 
-fn flag_of(b: bool) -> u64 {
-    if b {
-        return 1;
+// ---- the system
+fn write_system<W: Write>(out: &mut W, s: &System) -> io::Result<()> {
+    out.write_all(&s.count.to_be_bytes())?;
+    write_network(out, &s.network)?;
+    for x in &s.actors {
+        write_actor(out, x)?;
     }
-    0
+    Ok(())
 }
 
-// The mark and the timers, the live part, the state and the mark of the store, the stored part.
-fn actor_piece(x: Actor, k: usize) -> Piece {
-    let live = x.link.durable;
-    let stored = x.stored.durable;
-    if k == 0 {
-        return Piece {
-            n: [flag_of(x.crashed), x.timers.0 as u64, 0, 0, 0, 0, 0],
-            width: [1, 4, 0, 0, 0, 0, 0],
-        };
-    }
-    if k <= DURABLE_PIECES {
-        return durable_piece(live, k - 1);
-    }
-    if k == DURABLE_PIECES + 1 {
-        return Piece {
-            n: [x.link.state as u64, flag_of(x.stored.some), 0, 0, 0, 0, 0],
-            width: [1, 1, 0, 0, 0, 0, 0],
-        };
-    }
-    durable_piece(stored, k - DURABLE_PIECES - 2)
-}
-
-// ---- writing, from a place on, and the place after it
-// The high byte first. Where there is no room nothing is written: `dump` asks for the room of all.
-fn put_number(out: &mut [u8], at: usize, width: usize, n: u64) -> usize {
-    if out.len() < width {
-        return at;
-    }
-    if out.len() - width < at {
-        return at;
-    }
-    let mut rest = n;
-    let mut i = width;
-    while 0 < i {
-        i -= 1;
-        out[at + i] = (rest % 256) as u8;
-        rest = rest / 256;
-    }
-    at + width
-}
-
-fn put(out: &mut [u8], at: usize, p: Piece) -> usize {
-    let numbers = p.n;
-    let widths = p.width;
-    let mut next = at;
-    let mut i = 0;
-    while i < 7 {
-        let n = numbers[i];
-        let width = widths[i];
-        next = put_number(out, next, width, n);
-        i += 1;
-    }
-    next
-}
-
+// From a place on, and the place after it. No write fails, since there is room for all of it.
 pub fn dump(out: &mut [u8], at: usize, s: System) -> usize
     requires { at + 10409 ≤ length out.old }
     ensures { result ≡ at + 10409 }
 {
-    let count = s.count;
-    let network = s.network;
-    let actors = s.actors;
-    let mut next = at;
-    let mut k = 0;
-    while k < NETWORK_PIECES {
-        next = put(out, next, network_piece(count, network, k));
-        k += 1;
-    }
-    k = 0;
-    while k < MOST_ACTORS * ACTOR_PIECES {
-        let x = actors[k / ACTOR_PIECES];
-        next = put(out, next, actor_piece(x, k % ACTOR_PIECES));
-        k += 1;
-    }
+    let mut rest = &mut out[at..];
+    let _ = write_system(&mut rest, &s);
     at + SIZE
 }

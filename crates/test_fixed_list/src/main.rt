@@ -4,7 +4,7 @@
 
 ghost use Rattle.std.specs.Prelude.{◌≡◌, length};
 
-use replay_input::{Input, read_all};
+use replay_input::read_all;
 use std::fs::OpenOptions;
 use std::io::Read;
 use std::rt::Files;
@@ -22,8 +22,7 @@ fn tell(rt: &impl Print, t: Tally) -> io::Result<()> {
     let scripts = t.scripts;
     let differ = t.differ;
     print!(rt; "{scripts} scripts, {differ} differ")?;
-    if differ > 0 {
-        let first = t.first;
+    if let Some(first) = t.first {
         print!(rt; ", first number {first}")?;
     }
     println!(rt)
@@ -31,16 +30,14 @@ fn tell(rt: &impl Print, t: Tally) -> io::Result<()> {
 
 fn replay_file<R: Read>(rt: &impl Print, reader: &mut R) -> io::Result<()> {
     let mut list = room();
-    match read_all(reader, &mut list) {
-        Input::Broken(e) => Err(e),
-        Input::Whole(n) => tell(rt, check_list(&list[..n])),
-    }
+    let size = read_all(reader, &mut list)?;
+    tell(rt, check_list(&list[..size]))
 }
 
 fn main(rt: HostRuntime) -> io::Result<()> {
-    let Some(name) = env::args(&rt)?.nth(1) else {
-        return Err(io::Error::from(io::ErrorKind::NotFound));
-    };
+    let name = env::args(&rt)?
+        .nth(1)
+        .ok_or(io::Error::from(io::ErrorKind::NotFound))?;
     let mut list = rt.open_file(OpenOptions::new().read(true), name.as_str())?;
     replay_file(&rt, &mut list)
 }

@@ -6,7 +6,7 @@
 ghost use Rattle.std.specs.Prelude.{◌≤◌, length};
 
 use answers::number_of;
-use replay_input::{Input, read_all};
+use replay_input::read_all;
 use std::io;
 use sys_step::step;
 use sys_system::System;
@@ -20,7 +20,7 @@ fn same_bytes(a: System, b: System) -> bool {
     let mut y = [0u8; SIZE];
     dump(&mut x, 0, a);
     dump(&mut y, 0, b);
-    check::same(&x, &y)
+    x == y
 }
 
 // What came of a trial.
@@ -44,45 +44,31 @@ fn tried(s: System) -> Trial {
 fn tell(rt: &impl Print, name: &[u8], t: Trial) -> io::Result<()> {
     rt.write_all(name)?;
     let answer = t.answer;
-    if t.same {
-        println!(rt; ": {answer} same")
-    } else {
-        println!(rt; ": {answer} changed")
-    }
+    let system = if t.same { "same" } else { "changed" };
+    println!(rt; ": {answer} {system}")
 }
 
-// The first place of a byte, from a place on, or the end.
-fn find(text: &[u8], from: usize, b: u8) -> usize
-    requires { from ≤ length text.now }
-    ensures after { from ≤ result }
-    ensures within { result ≤ length text.now }
+// The first place of a byte, or the end.
+fn find(text: &[u8], byte: u8) -> usize
+    ensures { result ≤ length text.now }
 {
-    let mut i = from;
-    while i < text.len() {
-        if text[i] == b {
-            return i;
-        }
-        i += 1;
-    }
-    i
+    text.iter().position(|&b| b == byte).unwrap_or(text.len())
 }
 
+// A line's colon is looked for first, and its end behind that. A loop: each line says where the next one begins.
 fn run(rt: &impl Print, text: &[u8]) -> io::Result<()> {
-    let mut at = 0;
-    while at < text.len() {
-        let colon = find(text, at, b':');
-        let end = find(text, colon, b'\n');
-        let t = tried(made(&text[colon..end]));
-        tell(rt, &text[at..colon], t)?;
-        at = end + 1;
+    let mut rest = text;
+    while !rest.is_empty() {
+        let (name, behind) = rest.split_at(find(rest, b':'));
+        let (way, end) = behind.split_at(find(behind, b'\n'));
+        tell(rt, name, tried(made(way)))?;
+        rest = end.get(1..).unwrap_or(&[]);
     }
     Ok(())
 }
 
 fn main(rt: HostRuntime) -> io::Result<()> {
     let mut text = [0u8; 8192];
-    match read_all(&mut rt.stdin(), &mut text) {
-        Input::Broken(e) => Err(e),
-        Input::Whole(n) => run(&rt, &text[..n]),
-    }
+    let size = read_all(&mut rt.stdin(), &mut text)?;
+    run(&rt, &text[..size])
 }

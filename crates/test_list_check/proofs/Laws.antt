@@ -2,21 +2,24 @@
 -- Assumes nothing.
 use Prim.Native.Nat.{ℕ, zero, suc, ◌+◌, ◌-◌, ◌≤◌, ◌<◌}
 use native.Mathlib.Omega.{arith}
-use mathlib.Core.Path.{◌≡◌, refl, sym, ap, ◌∙◌, subst}
-use mathlib.Core.Bool.{Bool, true, false, ◌&&◌, false≢true}
+use mathlib.Core.Path.{◌≡◌, refl, sym, ap, ap₂, ◌∙◌, subst}
+use mathlib.Core.Bool.{Bool, true, false, ◌&&◌}
 use mathlib.Core.Logic.{◌⊎◌, inl, inr}
 use mathlib.Core.List.{List, [], ◌∷◌, ◌++◌}
 use lib.ListN.{length, take, drop, length-drop}
-use lib.Seq.{take_at}
+use lib.Seq.{take_at, take_all, drop-drop}
 use lib.Dec.{leb, eqb}
-use borrow.Author.Tests.{eqb-true, eqb-false, leb-true, le-leb, lt-leb, eq-eqb, ne_eqb}
+use lib.Pointwise.{pointwise}
+use borrow.Author.Tests.{eqb-false, leb-true, le-leb, lt-leb, eq-eqb, ne_eqb}
+use Rattle.std.specs.Prelude.{Option, Some}
+use Rattle.std.specs.Option.{option_or}
 use Rattle.lists.specs.Lists.{choose}
 use Rattle.layout.specs.Bits.{field_at}
 use Rattle.rules.specs.Outcome.{base}
 use Rattle.rules.specs.Script.{versions}
 use Rattle.rules.specs.Program.{replay}
 use Rattle.test_list_check.specs.declared.Tally.{Tally}
-use Rattle.test_list_check.specs.List.{large, part_size, second, pair_size, equal, agrees, right, counted, walk}
+use Rattle.test_list_check.specs.List.{large, part_size, second, pair_size, IsPart, IsPair, equal, agrees, right, counted, walk}
 
 -- ---- sizes
 module _ (l : List ℕ) where
@@ -100,30 +103,45 @@ module _ (l : List ℕ) where
   pub pair-there : 0 < pair_size l → (4 ≤ part_size l) × (4 ≤ part_size (second l))
   pair-there h = there sized h
 
+-- ---- parts and pairs as slices
+pub part_made : (l : List ℕ) {n : ℕ} → n ≡ field_at l 0 32 → 4 + n ≤ length l
+    → IsPart l (take (4 + n - 4) (drop 4 l)) (take (length l - (4 + n)) (drop (4 + n) l))
+part_made l {n} e h =
+    let p = part-fits l e h in
+    record {
+      there = omega (arith, p);
+      inside = ap (λ (k : ℕ). take (k - 4) (drop 4 l)) p;
+      behind = take_all (length l - (4 + n)) (drop (4 + n) l) (omega (arith, length-drop (4 + n) l)) ∙ ap (λ (k : ℕ). drop k l) p;
+    }
+
+module _ {l script behind : List ℕ} (p : IsPart l script behind) where
+  there_first : part_size l ≡ 0 → ⊥
+  there_first e = let h = p.there in omega arith
+
+  pub none_behind : part_size behind ≡ 0 → pair_size l ≡ 0
+  none_behind e = sym (no_output l there_first (sym (ap part_size p.behind) ∙ e))
+
+  pub pair_made : {output rest : List ℕ} → IsPart behind output rest → IsPair l script output rest
+  pair_made {output} {rest} q =
+      let r : IsPart (second l) output rest = subst (λ (k : List ℕ). IsPart k output rest) p.behind q in
+      let e = both l there_first (λ z. let h = r.there in omega arith) in
+      record {
+        there = omega (arith, e, p.there);
+        first = p.inside;
+        next = r.inside;
+        behind = r.behind ∙ drop-drop (part_size (second l)) (part_size l) l ∙ ap (λ (k : ℕ). drop k l) e;
+      }
+
+pub no_part : (l : List ℕ) → part_size l ≡ 0 → pair_size l ≡ 0
+no_part l e = sym (no-script l e)
+
 -- ---- comparing
-equal-refl : (l : List ℕ) → equal l l ≡ true
+pointwise-equal : (l m : List ℕ) → pointwise eqb l m ≡ equal l m
 unfolding equal
-equal-refl [] = refl
-equal-refl (x ∷ l) = rw (eq-eqb x x refl) (equal-refl l)
-
-equal-true : (l m : List ℕ) → equal l m ≡ true → l ≡ m
-unfolding equal
-equal-true [] [] e = refl
-equal-true [] (y ∷ m) e = absurd (false≢true e)
-equal-true (x ∷ l) [] e = absurd (false≢true e)
-equal-true (x ∷ l) (y ∷ m) e = go (eqb x y) refl e (equal-true l m)
-  where
-    go : (b : Bool) → eqb x y ≡ b → (b && equal l m) ≡ true → (equal l m ≡ true → l ≡ m) → x ∷ l ≡ y ∷ m
-    go true d f k = let p = eqb-true x y d in let q = k f in cc
-    go false d f k = absurd (false≢true f)
-
-same-equal : (b : Bool) (l m : List ℕ) → (b ≡ true → l ≡ m) → (l ≡ m → b ≡ true) → b ≡ equal l m
-same-equal true l m f g = sym (subst (λ (k : List ℕ). equal l k ≡ true) (f refl) (equal-refl l))
-same-equal false l m f g = go (equal l m) refl
-  where
-    go : (b : Bool) → equal l m ≡ b → false ≡ b
-    go true e = g (equal-true l m e)
-    go false e = refl
+pointwise-equal [] [] = refl
+pointwise-equal [] (y ∷ m) = refl
+pointwise-equal (x ∷ l) [] = refl
+pointwise-equal (x ∷ l) (y ∷ m) = ap (λ (b : Bool). eqb x y && b) (pointwise-equal l m)
 
 -- What the replay left at the start of a buffer that it fits.
 took : (w out left : List ℕ) (r : ℕ) → r ≡ length w → r ≤ length out → left ≡ choose (leb r (length out)) (w ++ drop r out) out → take r left
@@ -131,11 +149,6 @@ took : (w out left : List ℕ) (r : ℕ) → r ≡ length w → r ≤ length out
 unfolding choose
 took w out left r e h k =
     ap (λ (x : List ℕ). take r x) (k ∙ ap (λ (b : Bool). choose b (w ++ drop r out) out) (le-leb r (length out) h)) ∙ take_at w (drop r out) r (sym e)
-
-pub taken-size : (w out left : List ℕ) {r : ℕ} → large ≡ length out → r ≡ length w → r ≤ large → left
-    ≡ choose (leb r (length out)) (w ++ drop r out) out
-    → r ≡ length (take r left)
-taken-size w out left {r} n e h k = e ∙ sym (ap length (took w out left r e (omega arith) k))
 
 module _ (script stored : List ℕ) where
   pub too_long : {r : ℕ} → r ≡ length (replay base versions script) → large < r → false ≡ agrees script stored
@@ -146,12 +159,12 @@ module _ (script stored : List ℕ) where
 
   pub compared : {r : ℕ} {b : Bool} (out left : List ℕ) → large ≡ length out → r ≡ length (replay base versions script) → r ≤ large
       → left ≡ choose (leb r (length out)) (replay base versions script ++ drop r out) out
-      → (b ≡ true → take r left ≡ stored) → (take r left ≡ stored → b ≡ true) → b ≡ agrees script stored
+      → b ≡ pointwise eqb (take r left) stored → b ≡ agrees script stored
   unfolding agrees
-  compared {r} {b} out left n e h k f g =
+  compared {r} {b} out left n e h k p =
       let q : length (replay base versions script) ≤ large = omega arith in
       let w = took (replay base versions script) out left r e (omega arith) k in
-      same-equal b (replay base versions script) stored (λ t. sym w ∙ f t) (λ t. g (w ∙ t))
+      p ∙ pointwise-equal (take r left) stored ∙ ap (λ (l : List ℕ). equal l stored) w
       ∙ sym (ap (λ (c : Bool). c && equal (replay base versions script) stored) (le-leb (length (replay base versions script)) large q))
 
 -- ---- counting
@@ -160,11 +173,10 @@ module _ (t : Tally) where
   unfolding counted
   counted-right e = rw e
 
-  pub counted-wrong : {b : Bool} {f : ℕ} → b ≡ false → ((t.differ ≡ 0) × (f ≡ t.scripts + 1)) ⊎ ((t.differ ≡ 0 → ⊥) × (f ≡ t.first))
+  pub counted-wrong : {b : Bool} {f : Option ℕ} → b ≡ false → f ≡ option_or t.first (Some (t.scripts + 1))
       → record { scripts = t.scripts + 1; differ = t.differ + 1; first = f } ≡ counted t b
-  unfolding counted choose
-  counted-wrong e (inl h) = rw (e, h.1, eq-eqb t.differ 0 h.0)
-  counted-wrong e (inr h) = rw (e, h.1, ne_eqb t.differ 0 h.0)
+  unfolding counted
+  counted-wrong e h = rw (e, h)
 
 pub counted-scripts : (t : Tally) (b : Bool) → (counted t b).scripts ≡ t.scripts + 1
 unfolding counted
@@ -204,3 +216,14 @@ walk-on (x ∷ l) t h =
     let n : pair_size (x ∷ l) ≡ 0 → ⊥ = λ e. omega arith in
     let c = counted t (right (x ∷ l)) in
     rw (ne_eqb (pair_size (x ∷ l)) 0 n) (walk-drop (pair_size (x ∷ l) - 1) l c ∙ ap (λ (k : List ℕ). walk 0 k c) (drop-pred (pair_size (x ∷ l)) x l h))
+
+-- ---- a turn
+pub shorter : {l script output rest : List ℕ} → IsPair l script output rest → length rest < length l
+shorter {l} p = omega (arith, p.there, pair-within l, ap length p.behind, length-drop (pair_size l) l)
+
+pub turn : {l script output rest : List ℕ} (t : Tally) → IsPair l script output rest → walk 0 l t ≡ walk 0 rest (counted t (agrees script output))
+unfolding right
+turn {l} {script} {output} {rest} t p =
+    walk-on l t p.there
+    ∙ ap (λ (k : List ℕ). walk 0 k (counted t (right l))) (sym p.behind)
+    ∙ ap (λ (b : Bool). walk 0 rest (counted t b)) (sym (ap₂ agrees p.first p.next))

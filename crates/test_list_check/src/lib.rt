@@ -2,77 +2,60 @@
 // Every part of the list, a script or an output, has its length in front: four bytes, most significant first.
 #![tactic(auto)]
 
-ghost use Rattle.std.specs.Prelude.{◌≡◌, ◌-◌, ◌<◌, ◌≤◌, length, take, drop};
-ghost use Rattle.test_list_check.specs.List.{part_size, pair_size, agrees, right, counted, tallied};
+ghost use Rattle.std.specs.Prelude.{◌≡◌, ◌<◌, ◌≤◌, MatchOption, length};
+ghost use Rattle.test_list_check.specs.List.{large, part_size, pair_size, agrees, counted, tallied, IsPart, IsPair};
 
-use check::same;
 use replay_script::replay;
 use script_bits::field32;
-use script_places::from;
 
-// The bytes of the buffer that the kit lends.
+// The most bytes that an output may have here.
 const LARGE: usize = 65536;
 
-// The first that differs is counted from 1, and is 0 where none does.
-#[derive(Clone, Copy)]
+// The first that differs is counted from 1.
+#[derive(Clone, Copy, Debug, PartialEq, Eq)]
 pub struct Tally {
     pub scripts: usize,
     pub differ: usize,
-    pub first: usize,
+    pub first: Option<usize>,
 }
 
-// The size of the part at the front with its length; 0 if it is cut.
-fn part(list: &[u8]) -> usize
-    ensures { result ≡ part_size list.now }
+// The part at the front without its length, and what stands behind it; none if it is cut.
+fn split_part(list: &[u8]) -> Option<(&[u8], &[u8])>
+    ensures { MatchOption result (part_size list.now ≡ 0) (λ p. IsPart list.now p.0.now p.1.now) }
 {
-    let size = field32(list, 0, 32) as usize;
-    if 4 + size <= list.len() { 4 + size } else { 0 }
-}
-
-// What stands in a part of this size at the front.
-fn body(list: &[u8], size: usize) -> &[u8]
-    requires { (4 ≤ size) × (size ≤ length list.now) }
-    ensures { result.now ≡ take (size - 4) (drop 4 list.now) }
-{
-    &list[4..size]
-}
-
-// The size of the pair at the front, a script and its output; 0 if it is cut.
-fn pair(list: &[u8]) -> usize
-    ensures { result ≡ pair_size list.now }
-{
-    let script = part(list);
-    let output = part(from(list, script));
-    if script == 0 {
-        return 0;
+    let end = 4 + field32(list, 0, 32) as usize;
+    if list.len() < end {
+        return None;
     }
-    if output == 0 {
-        return 0;
-    }
-    script + output
+    Some((&list[4..end], &list[end..]))
+}
+
+// The pair at the front, a script and its output, and what stands behind it; none if it is cut.
+#[tactic(auto, using(crate::proofs::Laws::no_part, crate::proofs::Laws::none_behind, crate::proofs::Laws::pair_made))]
+fn split_pair(list: &[u8]) -> Option<(&[u8], &[u8], &[u8])>
+    ensures { MatchOption result (pair_size list.now ≡ 0) (λ p. IsPair list.now p.0.now p.1.now p.2.now) }
+{
+    let (script, behind) = split_part(list)?;
+    let (output, rest) = split_part(behind)?;
+    Some((script, output, rest))
+}
+
+fn room() -> [u8; LARGE]
+    ensures { large ≡ length result }
+{
+    [0; LARGE]
 }
 
 // Whether the port writes the output that is stored.
 fn agree(script: &[u8], stored: &[u8]) -> bool
     ensures { result ≡ agrees script.now stored.now }
 {
-    let mut out = io::large_buffer();
+    let mut out = room();
     let size = replay(script, &mut out);
     if size > LARGE {
         return false;
     }
-    same(&out[..size], stored)
-}
-
-// The same of the pair at the front.
-fn is_right(list: &[u8]) -> bool
-    requires { 0 < pair_size list.now }
-    ensures { result ≡ right list.now }
-{
-    let script = part(list);
-    let rest = from(list, script);
-    let output = part(rest);
-    agree(body(list, script), body(rest, output))
+    &out[..size] == stored
 }
 
 fn count(t: Tally, right: bool) -> Tally
@@ -82,37 +65,34 @@ fn count(t: Tally, right: bool) -> Tally
     let scripts = t.scripts + 1;
     if right {
         return Tally {
-            scripts: scripts,
+            scripts,
             differ: t.differ,
             first: t.first,
         };
     }
-    let first = if t.differ == 0 { scripts } else { t.first };
     Tally {
-        scripts: scripts,
+        scripts,
         differ: t.differ + 1,
-        first: first,
+        first: t.first.or(Some(scripts)),
     }
 }
 
-// A list that ends within a pair has one that differs there.
+// A list that ends within a pair has one that differs there. A loop: each pair says where the next one begins.
 pub fn check_list(list: &[u8]) -> Tally
     ensures { result ≡ tallied list.now }
 {
     let mut t = Tally {
         scripts: 0,
         differ: 0,
-        first: 0,
+        first: None,
     };
-    let mut at = 0;
-    while at < list.len() {
-        let rest = from(list, at);
-        let size = pair(rest);
-        if size == 0 {
+    let mut rest = list;
+    while !rest.is_empty() {
+        let Some((script, output, behind)) = split_pair(rest) else {
             return count(t, false);
-        }
-        t = count(t, is_right(rest));
-        at += size;
+        };
+        t = count(t, agree(script, output));
+        rest = behind;
     }
     t
 }

@@ -1,9 +1,7 @@
 -- Whether a layout is good.
 -- Assumes nothing.
-use Rattle.std.specs.Prelude.{Bool, true, false}
-use Rattle.script_check.specs.declared.Layout.{Layout}
-use Rattle.script_check.specs.declared.Layout.TheVariants as layout
+use Rattle.std.specs.Prelude.{Bool, true, false, Result, Ok, Err}
 
-abbrev pub is_good : Layout → Bool
-is_good layout.Good = true
-is_good (layout.Bad p) = false
+abbrev pub is_good : {E : Type 0} → Result Unit E → Bool
+is_good (Ok u) = true
+is_good (Err e) = false

@@ -12,8 +12,8 @@ ghost use Rattle.test_states.specs.Views.{is_good};
 
 use answers::is_done;
 use replay_start::open;
-use script_check::{Layout, check_script};
-use script_records::{ActionRead, format_of, read_action};
+use script_check::check_script;
+use script_records::{format_of, read_action};
 use sys_step::step;
 use sys_system::System;
 use test_dump::{SIZE, dump};
@@ -33,11 +33,7 @@ pub extern "C" fn states_replay(script: &[u8], out: &mut [u8]) -> usize
 pub extern "C" fn states_reads(script: &[u8]) -> bool
     ensures { result ≡ is_good (layout_of (read_script versions script.now)) }
 {
-    let layout = check_script(script);
-    match layout {
-        Layout::Bad(_) => false,
-        Layout::Good => true,
-    }
+    check_script(script).is_ok()
 }
 
 // A system, if there is room for it.
@@ -51,7 +47,7 @@ fn put(out: &mut [u8], at: usize, s: System) -> usize
     dump(out, at, s)
 }
 
-// The actions from a place on, each by the step of a whole system.
+// The actions from a place on, each by the step of a whole system. A loop: each record says where the next one begins.
 fn states_from(
     script: &[u8],
     from: usize,
@@ -67,21 +63,16 @@ fn states_from(
     let mut at = from;
     let mut end = place;
     loop {
-        let x = read_action(script, at, f);
-        match x {
-            ActionRead::Act(a, after) => {
-                let t = step(s, a);
-                s = t.system;
-                end = put(out, end, s);
-                at = after;
-            }
-            ActionRead::End(_) => {
-                return end;
-            }
-            ActionRead::Bad(_) => {
-                return end;
-            }
-        }
+        let Ok((action, after)) = read_action(script, at, f) else {
+            return end;
+        };
+        let Some(a) = action else {
+            return end;
+        };
+        let t = step(s, a);
+        s = t.system;
+        end = put(out, end, s);
+        at = after;
     }
 }
 

@@ -1,6 +1,5 @@
 -- `link_notes::note` meets its contract. What was noted so far, and what is left to note, come to what all of them make.
 -- Assumes nothing.
-use Prim.Native.Nat.{◌≤◌, ◌-◌}
 use mathlib.Core.Path.{◌≡◌}
 use lib.ListN.{length, drop}
 use Rattle.link_rows.specs.Rows.{row_size}
@@ -10,8 +9,5 @@ use Rattle.link_notes.proofs.note.Given as goal
 
 abbrev pub invariant-loop-i : goal.invariant-loop-i
 invariant-loop-i l =
-    (l.i ≤ l.n) × (length l.live ≡ row_size) × (length l.pend ≡ length l.initial.pend)
+    (length l.live ≡ row_size) × (length l.pend ≡ length l.initial.pend)
     × Along (orders l.row l.source l.value) l.initial.live l.initial.pend l.live l.pend (drop l.i (orders l.row l.source l.value))
-
-abbrev pub decreases-loop-i : goal.decreases-loop-i
-decreases-loop-i l = l.n - l.i

@@ -1,7 +1,7 @@
 -- `link_notes::note_one` meets its contract. By the command: nothing, a value saved, or a message posted.
 -- Assumes nothing.
 use Rattle.link_direct.proofs.Laws.{sends-one}
-use Rattle.link_notes.proofs.Laws.{note-set, note-cancel, note-save, note-send}
+use Rattle.link_notes.proofs.Laws.{note-timer, note-save, note-send}
 use native.Mathlib.Omega.{arith}
 use borrow.Author.Rules.{rules}
 use Rattle.link_notes.proofs.note_one.Goals as goal
@@ -15,12 +15,7 @@ post-requires c =
     (p, omega arith, omega arith, search rules, search rules)
 
 pub returns-in-SetTimer : goal.returns-in-SetTimer
-returns-in-SetTimer c =
-    note-set c.args.x c.args.live.now c.args.pend.now _ c.in-SetTimer.is
-
-pub returns-in-CancelTimer : goal.returns-in-CancelTimer
-returns-in-CancelTimer c =
-    note-cancel c.args.x c.args.live.now c.args.pend.now _ c.in-CancelTimer.is
+returns-in-SetTimer c = note-timer c.args.x c.args.live.now c.args.pend.now c.in-SetTimer.is
 
 pub returns-in-Save : goal.returns-in-Save
 returns-in-Save c =

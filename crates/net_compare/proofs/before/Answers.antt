@@ -1,8 +1,8 @@
--- The test of the comparison: both are what their contracts say.
+-- The derived order is the definition's.
 -- Assumes nothing.
-use mathlib.Core.Path.{ap, ◌∙◌}
-use Rattle.types.specs.Order.{is_less}
+use mathlib.Core.Path.{◌∙◌}
+use Rattle.types.proofs.Derived.{envelope-before}
 use Rattle.net_compare.proofs.before.Goals as goal
 
 pub returns : goal.returns
-returns c = c.is_less.ensures ∙ ap is_less c.compare_envelopes.ensures
+returns c = c.lt.ensures ∙ envelope-before _ _

@@ -1,12 +1,8 @@
--- An envelope's key is its flow's and then its message's, so the order is that of the flows, then that of the messages.
+-- The derived order is the definition's.
 -- Assumes nothing.
-use mathlib.Core.Path.{ap₂, ◌∙◌}
-use Rattle.types.specs.Order.{and_then}
-use Rattle.types.proofs.Laws.{envelope-split}
+use mathlib.Core.Path.{◌∙◌}
+use Rattle.types.proofs.Derived.{envelope-cmp}
 use Rattle.net_compare.proofs.compare_envelopes.Goals as goal
 
 pub returns : goal.returns
-returns c =
-    c.and_then.ensures
-    ∙ ap₂ and_then c.compare_flows-f.ensures c.compare_messages-m.ensures
-    ∙ envelope-split c.args.a c.args.b
+returns c = c.cmp.ensures ∙ envelope-cmp _ _

@@ -7,12 +7,12 @@ use Rattle.types.specs.declared.Entry.{Entry}
 use Rattle.net_formed.specs.Formed.{zeroed}
 use Rattle.net_formed.proofs.is_zero.Goals as goal
 
-pub returns-then-x-ne0 : goal.returns-then-x-ne0
+pub returns-then-x-eq0 : goal.returns-then-x-eq0
 unfolding zeroed
-returns-then-x-ne0 c = rw (ne_eqb _ _ c.if-x-ne0.true)
-
-pub returns : goal.returns
-unfolding zeroed
-returns c =
-    rw (eq-eqb _ _ c.if-x-ne0.false)
+returns-then-x-eq0 c =
+    rw (eq-eqb _ _ c.if-x-eq0.true)
     (c.same_envelope.ensures ∙ ap (λ (y : Entry). same c.args.x.envelope y.envelope) c.zero_entry-z.ensures)
+
+pub returns-else-x-eq0 : goal.returns-else-x-eq0
+unfolding zeroed
+returns-else-x-eq0 c = rw (ne_eqb _ _ c.if-x-eq0.false)

@@ -10,12 +10,12 @@ returns-in_default c = rw c.in_default.is
 
 pub returns-in-Ordered : goal.returns-in-Ordered
 unfolding last_ok is_duplicating
-returns-in-Ordered c = rw (c.in-Delivered.is, c.in-Ordered.is)
+returns-in-Ordered c = rw (c.in-Some.is, c.in-Ordered.is)
 
 pub returns-in-UnorderedDuplicating : goal.returns-in-UnorderedDuplicating
 unfolding last_ok is_duplicating
-returns-in-UnorderedDuplicating c = rw (c.in-Delivered.is, c.in-UnorderedDuplicating.is) c.source_known.ensures
+returns-in-UnorderedDuplicating c = rw (c.in-Some.is, c.in-UnorderedDuplicating.is) c.source_known.ensures
 
 pub returns-in-UnorderedNonDuplicating : goal.returns-in-UnorderedNonDuplicating
 unfolding last_ok is_duplicating
-returns-in-UnorderedNonDuplicating c = rw (c.in-Delivered.is, c.in-UnorderedNonDuplicating.is)
+returns-in-UnorderedNonDuplicating c = rw (c.in-Some.is, c.in-UnorderedNonDuplicating.is)

@@ -1,9 +1,6 @@
 -- After i turns the array holds the cells of the first i entries, zero behind. Each can be read back, as its types say.
 -- Assumes nothing.
-use Prim.Native.Nat.{◌≤◌, ◌-◌}
-use mathlib.Core.Path.{◌≡◌}
-use mathlib.Core.List.{map}
-use lib.ListN.{take}
+use Rattle.std.proofs.Common.{◌≡◌, map, take}
 use Rattle.lists.specs.Lists.{pad}
 use Rattle.types.specs.Capacities.{most_entries}
 use Rattle.net_cells.specs.Cells.{cell_of, entry_of, zero_cell}
@@ -11,8 +8,5 @@ use Rattle.net_layout.proofs.cells_of.Given as goal
 
 abbrev pub invariant-loop-i : goal.invariant-loop-i
 invariant-loop-i l =
-    (l.i ≤ l.used) × (l.cs ≡ pad most_entries zero_cell (map cell_of (take l.i l.entries)))
-    × (map entry_of (map cell_of (take l.i l.entries)) ≡ take l.i l.entries)
-
-abbrev pub decreases-loop-i : goal.decreases-loop-i
-decreases-loop-i l = l.used - l.i
+    (l.cs ≡ pad most_entries zero_cell (map cell_of (take l.i l.x-items)))
+    × (map entry_of (map cell_of (take l.i l.x-items)) ≡ take l.i l.x-items)

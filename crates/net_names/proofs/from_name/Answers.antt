@@ -1,45 +1,22 @@
--- A name is compared with the three in turn, as the rules do. Each test that fails leaves the names after it.
+-- The first kind whose name it is, or none: the rules compare with the three names in the same order.
 -- Assumes nothing.
-use mathlib.Core.Path.{sym, ◌∙◌}
-use Rattle.lists.specs.Lists.{choose}
-use Rattle.rules.specs.Network.{kind_named, name_of}
+use Rattle.std.proofs.Common.{rules, ap, ◌∙◌, Option}
+use Rattle.std.proofs.lemmas.Iterator.{YieldsList-from_slice}
+use Rattle.std.proofs.lemmas.Iterator.Search.{find_from_yields_List}
+use Rattle.std.specs.Option.{ok_or}
+use borrow.Author.Tests.{tests}
+use Rattle.types.specs.declared.Kind.{Kind}
+use Rattle.net_names.specs.declared.UnknownName.{UnknownName}
+use Rattle.net_names.specs.declared.TheConstants.{KINDS}
+use Rattle.net_names.proofs.Places.{is_name, first_named}
 use Rattle.net_names.proofs.Theorems.{named-all}
 use Rattle.net_names.proofs.from_name.Goals as goal
 
-pub returns-then-same_bytes : goal.returns-then-same_bytes
-unfolding kind_named name_of choose
-returns-then-same_bytes c =
-    let told = (named-all c.args.name.now (rw (sym c.same_bytes.ensures ∙ c.if-same_bytes.true))) in
-    record { value = told.0; says = told.1 }
-
-pub returns-then-same_bytes-2 : goal.returns-then-same_bytes-2
-unfolding kind_named name_of choose
-returns-then-same_bytes-2 c =
-    let told = (named-all c.args.name.now
-    (rw (
-      sym c.same_bytes.ensures ∙ c.if-same_bytes.false,
-      sym c.same_bytes-2.ensures ∙ c.if-same_bytes-2.true,
-    ))) in
-    record { value = told.0; says = told.1 }
-
-pub returns-then-same_bytes-3 : goal.returns-then-same_bytes-3
-unfolding kind_named name_of choose
-returns-then-same_bytes-3 c =
-    let told = (named-all c.args.name.now
-    (rw (
-      sym c.same_bytes.ensures ∙ c.if-same_bytes.false,
-      sym c.same_bytes-2.ensures ∙ c.if-same_bytes-2.false,
-      sym c.same_bytes-3.ensures ∙ c.if-same_bytes-3.true,
-    ))) in
-    record { value = told.0; says = told.1 }
-
 pub returns : goal.returns
-unfolding kind_named name_of choose
 returns c =
-    let told = (named-all c.args.name.now
-    (rw (
-      sym c.same_bytes.ensures ∙ c.if-same_bytes.false,
-      sym c.same_bytes-2.ensures ∙ c.if-same_bytes-2.false,
-      sym c.same_bytes-3.ensures ∙ c.if-same_bytes-3.false,
-    ))) in
+    let name = c.args.name.now in
+    let found = find_from_yields_List (is_name name) _ _ c.find.result c.find.ensures.ran (YieldsList-from_slice KINDS cc)
+    (λ x b q k. search (rules, tests)) in
+    let told = named-all name
+    (c.ok_or.ensures.value ∙ ap (λ (o : Option Kind). ok_or {E = UnknownName} o (record {})) (c.copied.ensures ∙ found) ∙ first_named name) in
     record { value = told.0; says = told.1 }

@@ -1,25 +1,20 @@
--- Each arm knows the kind, and its constant holds the bytes of that kind's name.
+-- The test is the definition's own, and what was written and the rest of the buffer are its two parts.
 -- Assumes nothing.
-use Rattle.rules.specs.Network.{name_of}
+use borrow.Author.Tests.{le-leb, lt-leb}
+use Rattle.lists.specs.Lists.{choose}
+use Rattle.net_names.specs.Names.{written_as, left_on}
 use Rattle.net_names.proofs.write_name.Goals as goal
 
-pub returns-in-Ordered : goal.returns-in-Ordered
-unfolding name_of
-returns-in-Ordered c =
-    record { value = rw c.in-Ordered.is c.write_bytes.ensures.value; out_after = rw c.in-Ordered.is c.write_bytes.ensures.out_after }
+pub returns-then-out-n : goal.returns-then-out-n
+unfolding written_as left_on choose
+returns-then-out-n c =
+    let e = c.name_of-name.ensures in
+    let f = rw e at (lt-leb _ _ c.if-out-n.true) in
+    record { value = rw f; out_after = rw f }
 
-pub returns-in-UnorderedDuplicating : goal.returns-in-UnorderedDuplicating
-unfolding name_of
-returns-in-UnorderedDuplicating c =
-    record {
-      value = rw c.in-UnorderedDuplicating.is c.write_bytes-in-UnorderedDuplicating.ensures.value;
-      out_after = rw c.in-UnorderedDuplicating.is c.write_bytes-in-UnorderedDuplicating.ensures.out_after;
-    }
-
-pub returns-in-UnorderedNonDuplicating : goal.returns-in-UnorderedNonDuplicating
-unfolding name_of
-returns-in-UnorderedNonDuplicating c =
-    record {
-      value = rw c.in-UnorderedNonDuplicating.is c.write_bytes-in-UnorderedNonDuplicating.ensures.value;
-      out_after = rw c.in-UnorderedNonDuplicating.is c.write_bytes-in-UnorderedNonDuplicating.ensures.out_after;
-    }
+pub returns : goal.returns
+unfolding written_as left_on choose
+returns c =
+    let e = c.name_of-name.ensures in
+    let f = rw e at (le-leb _ _ c.if-out-n.false) in
+    record { value = rw (f, e); out_after = rw (f, c.copy_from_slice.ensures.after, e) }

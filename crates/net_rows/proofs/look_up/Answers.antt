@@ -7,30 +7,27 @@ use Rattle.net_rows.proofs.ByKind.{once-before, before-is, found-is}
 use Rattle.net_rows.proofs.Lookup.{is-there, is-missing}
 use Rattle.net_rows.specs.Views.{entry_list}
 use Rattle.net_rows.specs.Parts.{envelope_in}
+use Rattle.net_rows.proofs.look_up.Goals.{else-at-used-via-then-at-used+else-same, else-at-used-via-else-at-used}
 use Rattle.net_rows.proofs.look_up.Goals as goal
 
-pub halve-at-requires : goal.halve-at-requires
-halve-at-requires c = (c.requires.0.fit, once-before c.requires.0 c.requires.1 c.requires.2)
+pub cells_before-at-requires : goal.cells_before-at-requires
+cells_before-at-requires c = once-before c.requires.0 c.requires.1 c.requires.2
 
 pub returns-then-same : goal.returns-then-same
 returns-then-same c =
-    let w = c.halve-at in
+    let w = c.cells_before-at in
     let h = c.if-at-used.true in
     (is-there (envelope_in c.args.k) (entry_list c.args.c.now c.args.used) w.result
     (before-is c.requires.0 c.requires.1 w.result w.ensures) (omega (arith, sized c.requires.0))
     (found-is c.requires.0 c.requires.1 w.result h c.same.result c.same.ensures ∙ c.if-same.true)).look
 
-pub returns-else-same : goal.returns-else-same
-returns-else-same c =
-    let w = c.halve-at in
-    let h = c.if-at-used.true in
+pub returns : goal.returns
+returns c =
+    let w = c.cells_before-at in
     (is-missing (envelope_in c.args.k) (entry_list c.args.c.now c.args.used) w.result
     (before-is c.requires.0 c.requires.1 w.result w.ensures) c.requires.2
-    (λ _. found-is c.requires.0 c.requires.1 w.result h c.same.result c.same.ensures ∙ c.if-same.false)).look
-
-pub returns-else-at-used : goal.returns-else-at-used
-returns-else-at-used c =
-    let w = c.halve-at in
-    (is-missing (envelope_in c.args.k) (entry_list c.args.c.now c.args.used) w.result
-    (before-is c.requires.0 c.requires.1 w.result w.ensures) c.requires.2
-    (λ h. absurd (omega (arith, sized c.requires.0, c.if-at-used.false)))).look
+    (λ h. elim c.else-at-used.branch [
+      | else-at-used-via-then-at-used+else-same b ↦
+          found-is c.requires.0 c.requires.1 w.result b.if-at-used.true b.same.result b.same.ensures ∙ b.if-same.false
+      | else-at-used-via-else-at-used b ↦ absurd (omega (arith, sized c.requires.0, b.if-at-used.false))
+    ])).look

@@ -4,21 +4,21 @@ use mathlib.Core.Path.{sym, ◌∙◌}
 use Rattle.net_rows.proofs.ByKind.{ascend, set-sorted, free-fits, sent-free, sent-same}
 use Rattle.net_rows.proofs.send_once.Goals as goal
 
-pub look_up-f-requires : goal.look_up-f-requires
-look_up-f-requires c =
+pub look_up-requires : goal.look_up-requires
+look_up-requires c =
     (c.requires.0.laid, c.requires.1, ascend _ set-sorted _ c.requires.0.order)
 
 pub insert_cell-requires : goal.insert_cell-requires
 insert_cell-requires c =
-    let q = sym c.look_up-f.ensures ∙ c.in-Free.is in
+    let q = sym c.look_up.ensures ∙ c.in-Err.is in
     (c.requires.0.laid, free-fits c.requires.0.laid c.requires.1 set-sorted c.requires.0.order _ q, c.requires.1)
 
-pub returns-in-At : goal.returns-in-At
-returns-in-At c =
-    let q = sym c.look_up-f.ensures ∙ c.in-At.is in
+pub returns-in-Ok : goal.returns-in-Ok
+returns-in-Ok c =
+    let q = sym c.look_up.ensures ∙ c.in-Ok.is in
     sent-same c.requires.0.laid c.requires.1 c.requires.0.order _ q
 
-pub returns-in-Free : goal.returns-in-Free
-returns-in-Free c =
-    let q = sym c.look_up-f.ensures ∙ c.in-Free.is in
+pub returns-in-Err : goal.returns-in-Err
+returns-in-Err c =
+    let q = sym c.look_up.ensures ∙ c.in-Err.is in
     sent-free c.requires.0.laid c.requires.1 set-sorted c.requires.0.order _ q c.insert_cell.ensures

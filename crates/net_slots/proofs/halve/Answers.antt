@@ -1,35 +1,35 @@
--- What the search leaves open of `halve`.
-use borrow.Author.Rules.{rules}
-use native.Mathlib.Omega.{arith}
-use Prim.Native.Nat.{◌-◌, ◌+◌, ◌/◌}
-use mathlib.Core.Path.{◌≡◌, ◌∙◌, sym}
-use mathlib.Core.List.{[]}
-use Rattle.lists.proofs.Places.{lead-first}
-use borrow.Author.Count.{below_none}
-use Rattle.net_slots.specs.Search.{passes_of}
-use Rattle.net_slots.proofs.Laws.{passed_to}
+-- What the search leaves open of `halve`: what the closure says of the middle cell, and where the two ends meet.
+-- Assumes nothing.
+use Rattle.std.proofs.Common.{ℕ, ◌+◌, ◌-◌, ◌/◌, sym, true, false, arith}
+use Rattle.std.proofs.lemmas.Fn.{says_at}
+use Rattle.net_slots.proofs.Laws.{passed_to, met}
 use Rattle.net_slots.proofs.halve.Goals as goal
 
-pub loop-low-init : goal.loop-low-init
-loop-low-init c = (search rules, search rules, below_none _, λ h. absurd (omega arith))
-
 pub loop-low-preserved-then-passes : goal.loop-low-preserved-then-passes
-loop-low-preserved-then-passes c =
-    let a = c.args in
+loop-low-preserved-then-passes g c =
     let l = c.loop-low in
-    let mid = l.low + (l.high - l.low) / 2 in
-    let e = sym c.passes.ensures ∙ c.if-passes.true in
-    (search rules, search rules, passed_to (passes_of a.l a.k) a.used a.c.now c.requires.1 mid (omega arith) e, l.invariant.3)
+    let cs = c.args.cells.now in
+    let mid : ℕ = l.low + (l.high - l.low) / 2 in (
+      omega arith,
+      l.invariant.1,
+      λ p key once. (
+        passed_to p cs once mid (omega arith) (sym (key _ true (says_at g.F.Fn c.passes.ensures c.if-passes.true))),
+        (l.invariant.2 p key once).1,
+      ),
+    )
 
 pub loop-low-preserved : goal.loop-low-preserved
-loop-low-preserved c =
-    let l = c.loop-low in
-    (search rules, search rules, l.invariant.2, λ h. sym c.passes.ensures ∙ c.if-passes.false)
+loop-low-preserved g c =
+    let l = c.loop-low in (
+      omega arith,
+      omega arith,
+      λ p key once.
+          ((l.invariant.2 p key once).0, λ h. sym (key _ false (says_at g.F.Fn c.passes.ensures c.if-passes.false))),
+    )
 
-pub returns : goal.returns
-returns c =
-    let a = c.args in
+pub returns-clause-first : goal.returns-clause-first
+returns-clause-first g c =
     let l = c.loop-low in
-    let e : l.high ≡ l.low = omega arith in
-    lead-first (passes_of a.l a.k) a.c.now a.used l.low [] c.requires.0 (omega arith) l.invariant.2
-    (λ h. rw e at (l.invariant.3 (omega arith)))
+    λ p key once.
+    let z = l.invariant.2 p key once in
+    met p c.args.cells.now once l.low l.high (omega arith) l.invariant.1 z.0 z.1

@@ -1,10 +1,12 @@
--- The place is within the buffer. What is left of the buffer gets less, since another read follows only one that gave something.
--- Assumes nothing.
-use Rattle.std.proofs.Common.{◌≤◌, length, ◌-◌}
+-- What was read stands before the place, and each read that gives something goes past it.
+use Rattle.std.proofs.Common.{◌≡◌, ◌≤◌, ◌-◌, length, take}
+use Rattle.std.specs.Io.KnownBytes.{Consumes}
 use Rattle.replay_input.proofs.read_all.Given as goal
 
-abbrev pub invariant-loop-input : goal.invariant-loop-input
-invariant-loop-input g l = l.at ≤ length l.script
+abbrev pub invariant-loop-count : goal.invariant-loop-count
+invariant-loop-count g l =
+    (length l.script ≡ length l.initial.script) × (l.at ≤ length l.script)
+    × Consumes (g.R.Read.remaining l.initial.reader) (g.R.Read.remaining l.reader) (take l.at l.script)
 
-abbrev pub decreases-loop-input : goal.decreases-loop-input
-decreases-loop-input g l = length l.initial.script - l.at
+abbrev pub decreases-loop-count : goal.decreases-loop-count
+decreases-loop-count g l = length l.initial.script - l.at

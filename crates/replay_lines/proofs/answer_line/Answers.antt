@@ -15,19 +15,19 @@ length-answer : (m n : ℕ) → val.Fits w64 m → val.Fits w64 n → length (an
 unfolding answer_line
 length-answer m n h k = length-line (decimal m) (n ∷ []) (k, tt) (omega (arith, length-decimal m (omega arith)))
 
-pub put_decimal-next-requires : goal.put_decimal-next-requires
+pub put_decimal-end-requires : goal.put_decimal-end-requires
 unfolding answer_line line
-put_decimal-next-requires c =
+put_decimal-end-requires c =
     room-first (decimal _) (spaced (c.args.len ∷ [])) (room-line c.requires (length-answer _ _ c.ranges.answer c.ranges.len))
 
-pub put_last-requires : goal.put_last-requires
+pub put_numbers-requires : goal.put_numbers-requires
 unfolding answer_line line
-put_last-requires c =
-    room-then (decimal _) _ (room-line c.requires (length-answer _ _ c.ranges.answer c.ranges.len)) c.put_decimal-next.ensures
+put_numbers-requires c =
+    room-then (decimal _) _ (room-line c.requires (length-answer _ _ c.ranges.answer c.ranges.len)) c.put_decimal-end.ensures
 
 pub returns : goal.returns
 unfolding answer_line line
 returns c =
-    let told = (line-told (piece_then (decimal _) _ c.requires.0 c.put_decimal-next.ensures
-    c.put_last.ensures) (length-answer _ _ c.ranges.answer c.ranges.len)) in
+    let told = (line-told (piece_then (decimal _) _ c.requires.0 c.put_decimal-end.ensures
+    c.put_numbers.ensures) (length-answer _ _ c.ranges.answer c.ranges.len)) in
     record { next = told.0; bytes = told.1; short = told.2 }

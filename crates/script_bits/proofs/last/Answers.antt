@@ -1,49 +1,69 @@
 -- What the search leaves open of `last`.
+use Prim.Native.Nat.{ℕ, ◌+◌, ◌-◌, ◌*◌, ◌<◌, ◌^◌, ◌%◌}
 use native.Mathlib.Omega.{arith}
-use Prim.Native.Nat.{◌-◌, ◌*◌}
-use mathlib.Core.Path.{◌≡◌, sym}
+use mathlib.Core.List.{List}
+use mathlib.Core.Path.{◌≡◌, refl, sym, ap, ◌∙◌}
+use lib.ListN.{length, take, drop, get_or, length-drop}
+use lib.Seq.{take_all}
+use Rattle.std.proofs.lemmas.List.{get_or-drop}
 use Rattle.layout.specs.Bits.{field_at}
 use Rattle.layout.proofs.Laws.{field_below, field_past}
-use Rattle.script_bits.proofs.Laws.{byte_more, zeros-behind}
-use borrow.Author.Rules.{rules}
+use Rattle.script_bits.proofs.Laws.{one_more, zeros-behind}
 use Rattle.script_bits.proofs.last.Goals as goal
 
-pub loop-j-init : goal.loop-j-init
-unfolding field_at
-loop-j-init c =
-    let a = c.args in
-    let z : 8 * (a.i - a.i) ≡ 0 = omega arith in
-    (omega arith, omega arith, rw z)
+-- the bytes from the place k on
+module _ (xs : List ℕ) (k : ℕ) where
+  abbrev rest : List ℕ
+  rest = take (length xs - k) (drop k xs)
 
-pub overflow_cast-b : goal.overflow_cast-b
-overflow_cast-b c = omega (arith, c.shared_slice_known-1.given c.loop-j.j)
+  all-left : rest ≡ drop k xs
+  all-left = take_all (length xs - k) (drop k xs) (omega (arith, length-drop k xs))
+
+  long : length rest ≡ length xs - k
+  long = ap length all-left ∙ length-drop k xs
+
+  item : (j : ℕ) → get_or rest j 0 ≡ get_or xs (k + j) 0
+  item j = ap (λ (ys : List ℕ). get_or ys j 0) all-left ∙ get_or-drop k xs j 0
+
+pub returns-then-s-i : goal.returns-then-s-i
+returns-then-s-i c =
+    let a = c.args in sym (field_past a.s.now (8 * a.i) 64 (omega arith))
+
+pub loop-b-init : goal.loop-b-init
+unfolding field_at
+loop-b-init c = refl
 
 pub overflow_mul-n : goal.overflow_mul-n
 overflow_mul-n c =
-    let l = c.loop-j in
+    let l = c.loop-b in
     let a = c.args in
-    omega (arith, l.invariant.2, field_below a.s.now (8 * a.i) (8 * (l.j - a.i)) 56 (omega arith))
+    let n = long a.s.now a.i in
+    omega (arith, l.invariant, field_below a.s.now (8 * a.i) (8 * l.b-index) 56 (omega arith))
 
 pub overflow_add-n : goal.overflow_add-n
 overflow_add-n c =
-    let l = c.loop-j in
+    let l = c.loop-b in
     let a = c.args in
-    let b = c.shared_slice_known-1.given l.j in
-    omega (arith, b, l.invariant.2, field_below a.s.now (8 * a.i) (8 * (l.j - a.i)) 56 (omega arith))
+    let n = long a.s.now a.i in
+    let b = c.type_inv.s (a.i + l.b-index) in
+    omega (arith, b, item a.s.now a.i l.b-index, l.invariant, field_below a.s.now (8 * a.i) (8 * l.b-index) 56 (omega arith))
 
-pub loop-j-preserved : goal.loop-j-preserved
-loop-j-preserved c =
-    let l = c.loop-j in
+pub loop-b-preserved : goal.loop-b-preserved
+loop-b-preserved c =
+    let l = c.loop-b in
     let a = c.args in
-    let b = c.shared_slice_known-1.given l.j in
-    (search rules, omega arith, byte_more a.s.now a.i l.j l.n l.invariant.0 l.invariant.2 (omega (arith, b)))
-
-pub returns-then-j-i : goal.returns-then-j-i
-returns-then-j-i c =
-    let a = c.args in sym (field_past a.s.now (8 * a.i) 64 (omega arith))
+    let n = long a.s.now a.i in
+    let b = c.type_inv.s (a.i + l.b-index) in
+    let z : 8 * l.b-index + 8 ≡ 8 * (l.b-index + 1) = omega arith in
+    ap (λ (x : ℕ). l.n * 256 + x) (item a.s.now a.i l.b-index)
+    ∙ one_more a.s.now a.i l.b-index l.n l.invariant (omega arith) (omega (arith, b))
+    ∙ ap (field_at a.s.now (8 * a.i)) z
 
 pub returns : goal.returns
 returns c =
-    let l = c.loop-j in
+    let l = c.loop-b in
     let a = c.args in
-    zeros-behind a.s.now a.i l.j l.n l.invariant.0 l.invariant.2 (omega arith) (omega arith)
+    let n = long a.s.now a.i in
+    let z : length (rest a.s.now a.i) ≡ l.b-index = omega arith in
+    ap (λ (k : ℕ). l.n * 2 ^ (64 - 8 * k) % 18446744073709551616) z
+    ∙ zeros-behind a.s.now a.i l.b-index l.n l.invariant (omega arith) (omega arith)

@@ -10,16 +10,16 @@ returns-then-s-i c =
     let a = c.args in eight_is a.s.now a.at _ c.last.ensures (omega arith)
 
 pub overflow_cast-b : goal.overflow_cast-b
-overflow_cast-b c = omega (arith, c.shared_slice_known-2-1.given (c.args.at / 8 + 8))
+overflow_cast-b c = omega (arith, c.type_inv.s (c.args.at / 8 + 8))
 
 pub overflow_add-result : goal.overflow_add-result
 overflow_add-result c =
     let a = c.args in
-    let b = c.shared_slice_known-2-1.given (a.at / 8 + 8) in
+    let b = c.type_inv.s (a.at / 8 + 8) in
     omega (arith, nine-is a.s.now a.at _ c.full.ensures (omega (arith, b)), field_lt a.s.now a.at 64)
 
 pub returns : goal.returns
 returns c =
     let a = c.args in
-    let b = c.shared_slice_known-2-1.given (a.at / 8 + 8) in
+    let b = c.type_inv.s (a.at / 8 + 8) in
     nine-is a.s.now a.at _ c.full.ensures (omega (arith, b))

@@ -1,44 +1,49 @@
 -- What the search leaves open of `check_actions`.
+use Prim.Native.Nat.{ℕ}
 use native.Mathlib.Omega.{arith}
-use mathlib.Core.Path.{refl, sym, ◌∙◌}
+use mathlib.Core.Path.{◌≡◌, sym, ap, ◌∙◌}
+use Rattle.std.specs.Prelude.{Option, Result, Ok}
+use Rattle.types.specs.declared.Action.{Action}
+use Rattle.script_places.specs.declared.BadAt.{BadAt}
+use Rattle.script_places.proofs.Says.{failed}
 use Rattle.script_check.proofs.Actions.{layout-act, layout-end, layout-more, layout-bad}
-use borrow.Author.Rules.{rules}
 use Rattle.script_check.proofs.check_actions.Goals as goal
 
-pub loop-next-init : goal.loop-next-init
-loop-next-init c = (refl, search rules)
+-- what was read, by the case that it is
+known : {a b : Option Action} (q : ℕ) {m : Result (Option Action × ℕ) BadAt} → a ≡ b → Ok (a, q) ≡ m → Ok (b, q) ≡ m
+known q e h = ap (λ (x : Option Action). Ok (x, q)) (sym e) ∙ h
 
-pub loop-next-smaller : goal.loop-next-smaller
-loop-next-smaller c =
-    let l = c.loop-next in
+pub returns-in_err-action : goal.returns-in_err-action
+returns-in_err-action c =
+    let l = c.loop-action in
     let a = c.args in
-    let w = layout-act a.f a.script.now l.at (sym c.in-Act.is ∙ c.read_action-x.ensures.value) in
+    failed _ c.from_residual.ensures.1 ∙ sym (l.invariant ∙ layout-bad a.f a.script.now l.at c.in_err-action.ensures.value)
+
+pub loop-action-smaller : goal.loop-action-smaller
+loop-action-smaller c =
+    let l = c.loop-action in
+    let a = c.args in
+    let r = c.in_ok-action in
+    let w = layout-act a.f a.script.now l.at (known r.next c.in-Some.is r.ensures.value) in
     omega (arith, w.1, w.2, w.3)
 
-pub loop-next-preserved : goal.loop-next-preserved
-loop-next-preserved c =
-    let l = c.loop-next in
+pub loop-action-preserved : goal.loop-action-preserved
+loop-action-preserved c =
+    let l = c.loop-action in
     let a = c.args in
-    let w = layout-act a.f a.script.now l.at (sym c.in-Act.is ∙ c.read_action-x.ensures.value) in
-    (l.invariant.0 ∙ w.0, l.invariant.1)
+    let r = c.in_ok-action in
+    l.invariant ∙ (layout-act a.f a.script.now l.at (known r.next c.in-Some.is r.ensures.value)).0
 
-pub returns-then-next-all : goal.returns-then-next-all
-returns-then-next-all c =
-    let l = c.loop-next in
+pub returns-in-None : goal.returns-in-None
+returns-in-None c =
+    let l = c.loop-action in
     let a = c.args in
-    sym (l.invariant.0
-    ∙ layout-end a.f a.script.now l.at (sym c.in-End.is ∙ c.read_action-x.ensures.value) (c.if-next-all.true ∙ l.invariant.1))
+    let r = c.in_ok-action in
+    sym (l.invariant ∙ layout-end a.f a.script.now l.at (known r.next c.in-None.is r.ensures.value) c.if-next-script.true)
 
-pub returns-in-End : goal.returns-in-End
-returns-in-End c =
-    let l = c.loop-next in
+pub returns-in-None-2 : goal.returns-in-None-2
+returns-in-None-2 c =
+    let l = c.loop-action in
     let a = c.args in
-    sym (l.invariant.0
-    ∙ layout-more a.f a.script.now l.at (sym c.in-End.is ∙ c.read_action-x.ensures.value)
-    (λ e. c.if-next-all.false (e ∙ sym l.invariant.1)))
-
-pub returns-in-Bad : goal.returns-in-Bad
-returns-in-Bad c =
-    let l = c.loop-next in
-    let a = c.args in
-    sym (l.invariant.0 ∙ layout-bad a.f a.script.now l.at (sym c.in-Bad.is ∙ c.read_action-x.ensures.value))
+    let r = c.in_ok-action in
+    sym (l.invariant ∙ layout-more a.f a.script.now l.at (known r.next c.in-None-2.is r.ensures.value) c.if-next-script.false)

@@ -8,9 +8,8 @@ use Rattle.rules.specs.Script.{actions_from}
 use Rattle.script_check.specs.Views.{layout_of}
 use Rattle.script_check.proofs.check_actions.Given as goal
 
-abbrev pub invariant-loop-next : goal.invariant-loop-next
-invariant-loop-next l =
-    (layout_of (actions_from l.f (drop l.from l.script) l.from) ≡ layout_of (actions_from l.f (drop l.at l.script) l.at)) × (l.all ≡ length l.script)
+abbrev pub invariant-loop-action : goal.invariant-loop-action
+invariant-loop-action l = layout_of (actions_from l.f (drop l.from l.script) l.from) ≡ layout_of (actions_from l.f (drop l.at l.script) l.at)
 
-abbrev pub decreases-loop-next : goal.decreases-loop-next
-decreases-loop-next l = length l.script - l.at
+abbrev pub decreases-loop-action : goal.decreases-loop-action
+decreases-loop-action l = length l.script - l.at

@@ -1,50 +1,70 @@
--- What the search leaves open of `read_tables`.
+-- So many tables, read as their structs.
+use native.Mathlib.Omega.{arith}
 use mathlib.Core.Path.{◌≡◌, sym, ap, ◌∙◌}
-use lib.ListN.{take, drop}
+use mathlib.Core.List.{map}
+use borrow.Author.Rules.{rules}
+use lib.ListN.{drop}
+use Rattle.std.specs.Prelude.{Ok}
 use Rattle.lists.specs.Lists.{pad}
 use Rattle.layout.specs.Read.{repeat}
 use Rattle.types.specs.Capacities.{most_actors}
 use Rattle.rules.specs.Script.{table_from}
-use Rattle.link_inner.specs.Views.{zero_table}
-use Rattle.script_opening.proofs.Says.{tables-both}
-use Rattle.script_opening.proofs.Loops.{reads_none, reads_more, reads-bad, reads_all, reads-count}
-use Rattle.script_opening.proofs.Lists.{table_reader, tables_held, tables-held, table-found, table-bad}
-use native.Mathlib.Omega.{arith}
+use Rattle.link_inner.specs.Views.{table_as}
+use Rattle.script_places.proofs.Says.{tells, failed}
+use Rattle.script_opening.specs.Views.{table_read, tables_held, tables_read}
+use Rattle.script_opening.specs.Says.{tables_in}
+use Rattle.script_opening.proofs.Readings.{found_is, missed}
+use Rattle.script_opening.proofs.Kept.{kept-repeat, repeat-length}
+use Rattle.script_opening.proofs.Changed.{changed-result, before, before-bad, repeat-changing, table_reader, kept-tables}
+use Rattle.script_opening.proofs.Says.{tables-back}
 use Rattle.script_opening.proofs.read_tables.Goals as goal
 
-pub loop-i-init : goal.loop-i-init
-unfolding pad
-loop-i-init c =
-    let a = c.args in
-    reads_none most_actors zero_table (table_reader a.f) a.script.now a.at a.count _ (rw c.zero_table-z.ensures)
+pub read_many-requires : goal.read_many-requires
+read_many-requires c = λ k h.
+    let a = c.args in (
+      search rules,
+      (
+        search rules,
+        (
+          search rules,
+          (
+            search rules,
+            (
+              omega arith,
+              (
+                search rules,
+                (
+                  kept-tables a.f,
+                  λ p r e.
+                      (let x : r ≡ table_read (table_from a.f (drop p a.script.now) p) = search rules in
+                      x ∙ changed-result table_as (table_from a.f (drop p a.script.now) p)),
+                ),
+              ),
+            ),
+          ),
+        ),
+      ),
+    )
 
-pub returns-then-not-found : goal.returns-then-not-found
-returns-then-not-found c =
-    let told = (let l = c.loop-i in
+pub returns-in_err-list : goal.returns-in_err-list
+returns-in_err-list c =
     let a = c.args in
-    let r = c.read_table-t in
-    tables-both (repeat a.count (table_from a.f) (drop a.at a.script.now) a.at)
-    (c.bad_tables.ensures
-    ∙ ap tables_held (sym (reads-bad most_actors zero_table (table_reader a.f) a.script.now a.at a.count l.invariant (omega arith)
-    (table-bad a.f a.script.now l.next r.ensures.value c.if-not-found.true)))
-    ∙ tables-held a.f a.count (drop a.at a.script.now) a.at)) in
-    record { value = told.0; says = told.1 }
-
-pub loop-i-preserved : goal.loop-i-preserved
-loop-i-preserved c =
-    let l = c.loop-i in
-    let a = c.args in
-    let f = c.read_table-t in
-    reads_more most_actors zero_table (table_reader a.f) a.script.now a.at a.count l.invariant (omega arith) (omega arith)
-    (table-found a.f a.script.now l.next f.ensures.value c.if-not-found.false)
+    let xs = drop a.at a.script.now in
+    let m = repeat a.count (table_from a.f) xs a.at in
+    let b = missed (pad most_actors c.zero_table.result) (repeat a.count (table_reader a.f)) a.script.now a.at c.in_err-list.ensures in
+    let e = failed _ c.from_residual.ensures.1
+    ∙ sym (ap tables_read (before-bad (map table_as) m (sym (repeat-changing table_as (table_from a.f) a.count xs a.at) ∙ b))) in
+    record { value = e; says = tells tables_held tables_in tables-back _ e }
 
 pub returns : goal.returns
 returns c =
-    let told = (let l = c.loop-i in
     let a = c.args in
-    let w : l.tables ≡ pad most_actors zero_table (take l.i l.tables) = l.invariant.laid in
-    tables-both (repeat a.count (table_from a.f) (drop a.at a.script.now) a.at)
-    (rw (← tables-held a.f a.count (drop a.at a.script.now) a.at)
-    (rw (reads_all most_actors zero_table (table_reader a.f) a.script.now a.at a.count l.invariant (omega arith))
-    (rw (reads-count most_actors zero_table (table_reader a.f) a.script.now a.at a.count l.invariant (omega arith) (omega arith), ← w))))) in
-    record { value = told.0; says = told.1 }
+    let xs = drop a.at a.script.now in
+    let m = repeat a.count (table_from a.f) xs a.at in
+    let w = found_is (pad most_actors c.zero_table.result) (repeat a.count (table_reader a.f)) a.script.now a.at
+    (kept-repeat a.count (table_reader a.f) (kept-tables a.f)) c.in_ok-list.ensures in
+    let v = before (map table_as) m (sym (repeat-changing table_as (table_from a.f) a.count xs a.at) ∙ w.reads) in
+    let l = w.told ∙ (λ i. pad most_actors (c.zero_table.ensures i) (v.told i)) in
+    let u = sym (repeat-length (table_from a.f) a.count xs a.at v.reads) in
+    let e = (λ i. Ok (record { list = l i; used = u i }, c.in_ok-list.next)) ∙ sym (ap tables_read v.reads) in
+    record { value = e; says = tells tables_held tables_in tables-back _ e }

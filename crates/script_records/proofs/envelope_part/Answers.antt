@@ -1,28 +1,19 @@
 -- Source and destination stand before the message; where that is stuck, so is the envelope.
-use native.Mathlib.Omega.{arith}
 use mathlib.Core.Path.{refl, sym, ap, ◌∙◌}
-use Rattle.script_records.specs.Views.{message_end, envelope_part}
-use Rattle.script_records.proofs.Laws.{envelope-at, no-envelope, message-back}
-use borrow.Author.Rules.{rules}
+use Rattle.script_places.proofs.Laws.{part-back}
+use Rattle.script_records.specs.Views.{envelope_part}
+use Rattle.script_records.proofs.Laws.{envelope-at, no-envelope}
 use Rattle.script_records.proofs.envelope_part.Goals as goal
 
-pub returns-in-Found : goal.returns-in-Found
-returns-in-Found c =
+pub returns-in_err-msg-clause-by_index : goal.returns-in_err-msg-clause-by_index
+returns-in_err-msg-clause-by_index c xs h =
     let a = c.args in
-    let m = c.message_part-m in record {
-      by_index = λ xs h. sym (ap envelope_part
-          (envelope-at xs a.f a.at (c.cut8-src.ensures xs h)
-          (c.cut8-dst.ensures xs h) refl
-          (message-back (sym c.in-Found.is ∙ m.ensures.by_index xs h))));
-      short = omega (arith, m.ensures.short, ap message_end c.in-Found.is);
-    }
+    c.from_residual.ensures
+    ∙ sym (ap envelope_part
+    (no-envelope xs a.f a.at (c.cut8-src.ensures xs h) (c.cut8-dst.ensures xs h) refl (part-back (c.in_err-msg.ensures.by_index xs h))))
 
-pub returns-in-Stuck : goal.returns-in-Stuck
-returns-in-Stuck c =
+pub returns-clause-by_index : goal.returns-clause-by_index
+returns-clause-by_index c xs h =
     let a = c.args in
-    let m = c.message_part-m in record {
-      by_index = λ xs h. sym (ap envelope_part
-          (no-envelope xs a.f a.at (c.cut8-src.ensures xs h) (c.cut8-dst.ensures xs h) refl
-          (message-back (sym c.in-Stuck.is ∙ m.ensures.by_index xs h))));
-      short = search rules;
-    }
+    sym (ap envelope_part
+    (envelope-at xs a.f a.at (c.cut8-src.ensures xs h) (c.cut8-dst.ensures xs h) refl (part-back (c.in_ok-msg.ensures.by_index xs h))))

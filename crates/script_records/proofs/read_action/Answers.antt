@@ -1,62 +1,43 @@
 -- The action's part from the place on, and its end.
-use native.Mathlib.Omega.{arith}
-use mathlib.Core.Path.{refl, sym, ap, ◌∙◌}
+use mathlib.Core.Path.{refl}
 use Rattle.rules.specs.Script.{action_form}
-use Rattle.script_places.proofs.Laws.{tells_at, tells-not, tells-stuck}
-use Rattle.script_records.specs.Views.{action_end}
+use Rattle.script_places.proofs.Laws.{record_at, no-record}
+use Rattle.script_records.specs.Views.{action_held}
 use Rattle.script_records.proofs.Laws.{stand, action-back}
 use Rattle.script_records.proofs.Says.{action-tells}
 use Rattle.script_records.proofs.read_action.Goals as goal
 
-pub end_in-end-requires : goal.end_in-end-requires
-end_in-end-requires c =
-    let a = c.args in (
-      omega (arith, c.action_part-x.ensures.short, ap action_end c.in-Act.is),
-      stand a.script.now a.at c.from-s.ensures c.word-w.ensures c.word-v.ensures,
-    )
+pub returns-in-Some : goal.returns-in-Some
+returns-in-Some c =
+    let a = c.args in
+    let k = action-back (c.in-Act.ensures.by_index _ (stand a.script.now a.at c.from-s.ensures c.word-w.ensures c.word-v.ensures)) in
+    let e = record_at action_held (action_form a.f) a.script.now a.at refl k c.in-Some.ensures in
+    record { value = e; says = action-tells _ e }
 
-pub end_in-end-requires-in-End : goal.end_in-end-requires-in-End
-end_in-end-requires-in-End c =
-    let a = c.args in (
-      omega (arith, c.action_part-x.ensures.short, ap action_end c.in-End.is),
-      stand a.script.now a.at c.from-s.ensures c.word-w.ensures c.word-v.ensures,
-    )
+pub returns-in_default : goal.returns-in_default
+returns-in_default c =
+    let a = c.args in
+    let k = action-back (c.in-Act.ensures.by_index _ (stand a.script.now a.at c.from-s.ensures c.word-w.ensures c.word-v.ensures)) in
+    let e = record_at action_held (action_form a.f) a.script.now a.at refl k c.in_default.ensures in
+    record { value = e; says = action-tells _ e }
 
-pub returns-in-At : goal.returns-in-At
-returns-in-At c =
-    let told = (let a = c.args in
-    tells_at action-tells (action_form a.f) a.script.now a.at c.from-s.ensures
-    (action-back (sym c.in-Act.is ∙ c.action_part-x.ensures.by_index _ (record { first = c.word-w.ensures; second = c.word-v.ensures })))
-    c.end_in-end.ensures c.in-At.is refl) in
-    record { value = told.0; says = told.1 }
+pub returns-in-Some-end_in : goal.returns-in-Some-end_in
+returns-in-Some-end_in c =
+    let a = c.args in
+    let k = action-back (c.in-End.ensures.by_index _ (stand a.script.now a.at c.from-s.ensures c.word-w.ensures c.word-v.ensures)) in
+    let e = record_at action_held (action_form a.f) a.script.now a.at refl k c.in-Some-end_in.ensures in
+    record { value = e; says = action-tells _ e }
 
-pub returns-in-Bad : goal.returns-in-Bad
-returns-in-Bad c =
-    let told = (let a = c.args in
-    tells-not action-tells (action_form a.f) a.script.now a.at c.from-s.ensures
-    (action-back (sym c.in-Act.is ∙ c.action_part-x.ensures.by_index _ (record { first = c.word-w.ensures; second = c.word-v.ensures })))
-    c.end_in-end.ensures c.in-Bad.is refl) in
-    record { value = told.0; says = told.1 }
-
-pub returns-in-At-end : goal.returns-in-At-end
-returns-in-At-end c =
-    let told = (let a = c.args in
-    tells_at action-tells (action_form a.f) a.script.now a.at c.from-s.ensures
-    (action-back (sym c.in-End.is ∙ c.action_part-x.ensures.by_index _ (record { first = c.word-w.ensures; second = c.word-v.ensures })))
-    c.end_in-end-in-End.ensures c.in-At-end.is refl) in
-    record { value = told.0; says = told.1 }
-
-pub returns-in-Bad-end : goal.returns-in-Bad-end
-returns-in-Bad-end c =
-    let told = (let a = c.args in
-    tells-not action-tells (action_form a.f) a.script.now a.at c.from-s.ensures
-    (action-back (sym c.in-End.is ∙ c.action_part-x.ensures.by_index _ (record { first = c.word-w.ensures; second = c.word-v.ensures })))
-    c.end_in-end-in-End.ensures c.in-Bad-end.is refl) in
-    record { value = told.0; says = told.1 }
+pub returns-in_default-end_in : goal.returns-in_default-end_in
+returns-in_default-end_in c =
+    let a = c.args in
+    let k = action-back (c.in-End.ensures.by_index _ (stand a.script.now a.at c.from-s.ensures c.word-w.ensures c.word-v.ensures)) in
+    let e = record_at action_held (action_form a.f) a.script.now a.at refl k c.in_default-end_in.ensures in
+    record { value = e; says = action-tells _ e }
 
 pub returns-in-Stuck : goal.returns-in-Stuck
 returns-in-Stuck c =
-    let told = (let a = c.args in
-    tells-stuck action-tells (action_form a.f) a.script.now a.at c.from-s.ensures
-    (action-back (sym c.in-Stuck.is ∙ c.action_part-x.ensures.by_index _ (record { first = c.word-w.ensures; second = c.word-v.ensures }))) refl) in
-    record { value = told.0; says = told.1 }
+    let a = c.args in
+    let k = action-back (c.in-Stuck.ensures.by_index _ (stand a.script.now a.at c.from-s.ensures c.word-w.ensures c.word-v.ensures)) in
+    let e = no-record action_held (action_form a.f) a.script.now a.at refl k in
+    record { value = e; says = action-tells _ e }

@@ -1,26 +1,28 @@
 -- The count is its one field, and a record of so many bits.
-use mathlib.Core.Path.{refl}
-use Rattle.script_places.proofs.Laws.{tells_at, tells-not, tells-stuck}
+use mathlib.Core.Path.{sym, ap, ◌∙◌}
+use Rattle.std.specs.Prelude.{Err}
+use Rattle.script_places.specs.Views.{same}
+use Rattle.script_places.proofs.Laws.{record_at, no-record}
+use Rattle.script_places.proofs.Says.{failed, refused}
 use Rattle.script_records.proofs.Laws.{count_form, count_at, no-count}
-use Rattle.script_records.proofs.Says.{count-tells}
 use Rattle.script_records.proofs.read_count.Goals as goal
 
 pub returns-then-most-count : goal.returns-then-most-count
 returns-then-most-count c =
     let a = c.args in
-    (tells-stuck count-tells (count_form a.width a.most) a.script.now a.at c.from-s.ensures
-    (no-count _ a.width a.most c.field-count.ensures c.if-most-count.true) refl).0
+    no-record same (count_form a.width a.most) a.script.now a.at c.from-s.ensures
+    (no-count _ a.width a.most c.field-count.ensures c.if-most-count.true)
 
-pub returns-in-At : goal.returns-in-At
-returns-in-At c =
+pub returns-in_err-next : goal.returns-in_err-next
+returns-in_err-next c =
     let a = c.args in
-    (tells_at count-tells (count_form a.width a.most) a.script.now a.at c.from-s.ensures
-    (count_at _ a.width a.most c.field-count.ensures c.if-most-count.false)
-    c.end_of-end.ensures c.in-At.is refl).0
+    failed _ c.from_residual.ensures.1
+    ∙ ap Err (refused c.in_err-next.ensures.value c.in_err-next.ensures.ok_part)
+    ∙ record_at same (count_form a.width a.most) a.script.now a.at c.from-s.ensures
+    (count_at _ a.width a.most c.field-count.ensures c.if-most-count.false) (sym c.in_err-next.ensures.ok_part ∙ c.end_of.ensures)
 
-pub returns-in-Bad : goal.returns-in-Bad
-returns-in-Bad c =
+pub returns : goal.returns
+returns c =
     let a = c.args in
-    (tells-not count-tells (count_form a.width a.most) a.script.now a.at c.from-s.ensures
-    (count_at _ a.width a.most c.field-count.ensures c.if-most-count.false)
-    c.end_of-end.ensures c.in-Bad.is refl).0
+    record_at same (count_form a.width a.most) a.script.now a.at c.from-s.ensures
+    (count_at _ a.width a.most c.field-count.ensures c.if-most-count.false) (sym c.in_ok-next.ensures.ok_part ∙ c.end_of.ensures)

@@ -1,39 +1,48 @@
 -- The envelope's part from the place on, and its end.
+use Prim.Native.Nat.{ℕ, ◌+◌, ◌≤◌}
 use native.Mathlib.Omega.{arith}
-use mathlib.Core.Path.{refl, sym, ap, ◌∙◌}
+use mathlib.Core.Path.{refl, sym, ap, subst, ◌∙◌}
+use Rattle.std.specs.Prelude.{Option, Err, IfSome}
+use Rattle.types.specs.declared.Envelope.{Envelope}
 use Rattle.rules.specs.Script.{envelope_form}
-use Rattle.script_places.proofs.Laws.{tells_at, tells-not, tells-stuck}
-use Rattle.script_records.specs.Views.{envelope_end}
-use Rattle.script_records.proofs.Laws.{stand, envelope-back}
-use Rattle.script_records.proofs.Says.{envelope-tells}
+use Rattle.script_places.specs.Views.{same}
+use Rattle.script_places.proofs.Laws.{record_at, no-record, part-back}
+use Rattle.script_places.proofs.Says.{tells, failed, refused}
+use Rattle.script_records.proofs.Laws.{stand}
 use Rattle.script_records.proofs.read_envelope.Goals as goal
 
-pub end_in-end-requires : goal.end_in-end-requires
-end_in-end-requires c =
-    let a = c.args in (
-      omega (arith, c.envelope_part-x.ensures.short, ap envelope_end c.in-Found.is),
-      stand a.script.now a.at c.from-s.ensures c.word-w.ensures c.word-v.ensures,
-    )
+pub end_in-requires : goal.end_in-requires
+end_in-requires c =
+    let a = c.args in
+    let Short : Option (Envelope × ℕ) → Type 0 = λ x. IfSome x (λ y. y.1 ≤ 0 + 120) in
+    let n = subst Short c.in_ok-e.ensures.ok_part c.envelope_part.ensures.short in
+    (omega (arith, n), stand a.script.now a.at c.from-s.ensures c.word-w.ensures c.word-v.ensures)
 
-pub returns-in-At : goal.returns-in-At
-returns-in-At c =
-    let told = (let a = c.args in
-    tells_at envelope-tells (envelope_form a.f) a.script.now a.at c.from-s.ensures
-    (envelope-back (sym c.in-Found.is ∙ c.envelope_part-x.ensures.by_index _ (record { first = c.word-w.ensures; second = c.word-v.ensures })))
-    c.end_in-end.ensures c.in-At.is refl) in
-    record { value = told.0; says = told.1 }
+pub returns-in_err-e : goal.returns-in_err-e
+returns-in_err-e c =
+    let a = c.args in
+    let k = c.in_err-e.ensures in
+    let g = stand a.script.now a.at c.from-s.ensures c.word-w.ensures c.word-v.ensures in
+    let e = failed _ c.from_residual.ensures.1
+    ∙ ap Err (refused k.value k.ok_part)
+    ∙ no-record same (envelope_form a.f) a.script.now a.at refl (part-back (sym k.ok_part ∙ c.envelope_part.ensures.by_index _ g)) in
+    record { value = e; says = tells same same (λ e. refl) _ e }
 
-pub returns-in-Bad : goal.returns-in-Bad
-returns-in-Bad c =
-    let told = (let a = c.args in
-    tells-not envelope-tells (envelope_form a.f) a.script.now a.at c.from-s.ensures
-    (envelope-back (sym c.in-Found.is ∙ c.envelope_part-x.ensures.by_index _ (record { first = c.word-w.ensures; second = c.word-v.ensures })))
-    c.end_in-end.ensures c.in-Bad.is refl) in
-    record { value = told.0; says = told.1 }
+pub returns-in_err-next : goal.returns-in_err-next
+returns-in_err-next c =
+    let a = c.args in
+    let k = c.in_err-next.ensures in
+    let g = stand a.script.now a.at c.from-s.ensures c.word-w.ensures c.word-v.ensures in
+    let e = failed _ c.from_residual-in_err-next.ensures.1
+    ∙ ap Err (refused k.value k.ok_part)
+    ∙ record_at same (envelope_form a.f) a.script.now a.at refl
+    (part-back (sym c.in_ok-e.ensures.ok_part ∙ c.envelope_part.ensures.by_index _ g)) (sym k.ok_part ∙ c.end_in.ensures) in
+    record { value = e; says = tells same same (λ e. refl) _ e }
 
-pub returns-in-Stuck : goal.returns-in-Stuck
-returns-in-Stuck c =
-    let told = (let a = c.args in
-    tells-stuck envelope-tells (envelope_form a.f) a.script.now a.at c.from-s.ensures
-    (envelope-back (sym c.in-Stuck.is ∙ c.envelope_part-x.ensures.by_index _ (record { first = c.word-w.ensures; second = c.word-v.ensures }))) refl) in
-    record { value = told.0; says = told.1 }
+pub returns : goal.returns
+returns c =
+    let a = c.args in
+    let g = stand a.script.now a.at c.from-s.ensures c.word-w.ensures c.word-v.ensures in
+    let e = record_at same (envelope_form a.f) a.script.now a.at refl
+    (part-back (sym c.in_ok-e.ensures.ok_part ∙ c.envelope_part.ensures.by_index _ g)) (sym c.in_ok-next.ensures.ok_part ∙ c.end_in.ensures) in
+    record { value = e; says = tells same same (λ e. refl) _ e }

@@ -11,8 +11,7 @@ use Rattle.types.specs.Capacities.{most_commands}
 use Rattle.types.specs.declared.Slot.{Slot}
 use Rattle.rules.specs.Inner.{zero_slot, slots_of}
 use Rattle.rules.specs.Script.{command_form}
-use Rattle.script_rules.specs.declared.CommandsPart.{CommandsPart}
-use Rattle.script_rules.specs.Views.{command_end, commands_part}
+use Rattle.script_rules.specs.Views.{commands_part}
 use Rattle.script_places.proofs.Laws.{then_at, then-stuck}
 use Rattle.script_rules.proofs.Laws.{slots-are}
 use Rattle.script_rules.proofs.Turns.{told, one_more, all-stuck}
@@ -24,21 +23,18 @@ loop-i-init c = record { some = search rules; near = search rules; laid = rw c.z
 
 pub loop-i-preserved : goal.loop-i-preserved
 loop-i-preserved c =
-    let k = c.in-Found.is in
-    one_more c.loop-i.invariant (omega arith) (omega arith) (sym k ∙ c.command_part-c.ensures.value)
-    (omega (arith, c.command_part-c.ensures.short, ap command_end k))
+    let k = c.in_ok-command.ensures in
+    one_more c.loop-i.invariant (omega arith) (omega arith) k.value k.short
 
-pub returns-in-Stuck : goal.returns-in-Stuck
-returns-in-Stuck c =
-    let l = c.loop-i in
+pub returns-in_err-command-clause-value : goal.returns-in_err-command-clause-value
+returns-in_err-command-clause-value c =
     let a = c.args in
-    let z = all-stuck l.invariant (omega arith) (sym c.in-Stuck.is ∙ c.command_part-c.ensures.value) in record {
-      value = c.no_commands.ensures ∙ sym (ap commands_part (then-stuck a.s.now a.at (times a.count (command_form a.f)) slots_of z));
-      short = omega (arith, ap (λ (x : CommandsPart). x.end) c.no_commands.ensures);
-    }
+    c.from_residual.ensures
+    ∙ sym (ap commands_part (then-stuck a.s.now a.at (times a.count (command_form a.f)) slots_of
+    (all-stuck c.loop-i.invariant (omega arith) c.in_err-command.ensures.value)))
 
-pub returns : goal.returns
-returns c =
+pub returns-clause-value : goal.returns-clause-value
+returns-clause-value c =
     let l = c.loop-i in
     let a = c.args in
     let e : l.i ≡ a.count = omega arith in
@@ -47,8 +43,6 @@ returns c =
     ∙ l.invariant.reads
     ∙ ap (λ (k : ℕ). reached (told (take k l.commands)) l.end) e in
     let r : l.commands ≡ pad most_commands zero_slot (take a.count l.commands) =
-    l.invariant.laid ∙ ap (λ (k : ℕ). pad most_commands zero_slot (take k l.commands)) e in record {
-      value = sym (ap commands_part (then_at a.s.now a.at (times a.count (command_form a.f)) slots_of h
-          ∙ ap (λ (q : List Slot). reached q l.end) (slots-are a.count l.commands r)));
-      short = omega (arith, l.invariant.near);
-    }
+    l.invariant.laid ∙ ap (λ (k : ℕ). pad most_commands zero_slot (take k l.commands)) e in
+    sym (ap commands_part (then_at a.s.now a.at (times a.count (command_form a.f)) slots_of h
+    ∙ ap (λ (q : List Slot). reached q l.end) (slots-are a.count l.commands r)))

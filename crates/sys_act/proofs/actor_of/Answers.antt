@@ -7,18 +7,14 @@ pub returns-in-Deliver : goal.returns-in-Deliver
 unfolding target
 returns-in-Deliver c = search rules
 
-pub returns-in-Drop : goal.returns-in-Drop
-unfolding target
-returns-in-Drop c = search rules
-
 pub returns-in-Timeout : goal.returns-in-Timeout
 unfolding target
 returns-in-Timeout c = search rules
 
-pub returns-in-Crash : goal.returns-in-Crash
+pub returns-in-Timeout-2 : goal.returns-in-Timeout-2
 unfolding target
-returns-in-Crash c = search rules
+returns-in-Timeout-2 c = search rules
 
-pub returns-in-Recover : goal.returns-in-Recover
+pub returns-in-Timeout-3 : goal.returns-in-Timeout-3
 unfolding target
-returns-in-Recover c = search rules
+returns-in-Timeout-3 c = search rules

@@ -8,10 +8,10 @@ pub returns-then-not-known : goal.returns-then-not-known
 returns-then-not-known c =
     let a = c.args in
     let z = ltb-false a.e.src.0 a.count (sym c.known.ensures ∙ c.if-not-known.true) in
-    record { unknown = λ h. (refl, refl); drops = λ h. absurd (omega arith) }
+    (record { unknown = λ h. (refl, refl); drops = λ h. absurd (omega arith) }, refl)
 
 pub returns : goal.returns
 returns c =
     let a = c.args in
     let z = ltb-true a.e.src.0 a.count (sym c.known.ensures ∙ c.if-not-known.false) in
-    record { unknown = λ h. absurd (omega arith); drops = λ h. c.on_drop.ensures }
+    (record { unknown = λ h. absurd (omega arith); drops = λ h. c.on_drop-s.ensures }, refl)

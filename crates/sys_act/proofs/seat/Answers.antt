@@ -8,7 +8,7 @@ returns-then-known c =
     let s = c.args in
     seat-known s.count s.a _ c.actor_of-i.ensures (sym c.known.ensures ∙ c.if-known.true)
 
-pub returns : goal.returns
-returns c =
+pub returns-else-known : goal.returns-else-known
+returns-else-known c =
     let s = c.args in
     seat-none s.count s.a _ c.actor_of-i.ensures (sym c.known.ensures ∙ c.if-known.false)

@@ -9,6 +9,6 @@ pub returns-then-not-a : goal.returns-then-not-a
 unfolding quiet
 returns-then-not-a c = let e = not-true c.args.a.crashed c.if-not-a.true in rw e
 
-pub returns : goal.returns
+pub returns-else-not-a : goal.returns-else-not-a
 unfolding quiet count_timers
-returns c = let e = not-false c.args.a.crashed c.if-not-a.false in let n = c.count.ensures in rw (e, n)
+returns-else-not-a c = let e = not-false c.args.a.crashed c.if-not-a.false in let n = c.count.ensures in rw (e, n)

@@ -13,8 +13,8 @@ returns-then-a c =
     let h : a.timers.0 < 4294967296 = search rules in
     (with-mark (durable_view a.link.durable) a.crashed a.timers.0 a.link.state r.result r.ensures.0 c.if-a.true, r.ensures.1, h)
 
-pub returns : goal.returns
-returns c =
+pub returns-else-a : goal.returns-else-a
+returns-else-a c =
     let a = c.args.a in
     let r = c.durable_row-row in
     let h : a.timers.0 < 4294967296 = search rules in

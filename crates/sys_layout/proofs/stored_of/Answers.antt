@@ -8,12 +8,12 @@ use Rattle.sys_layout.proofs.stored_of.Goals as goal
 pub returns-then-kept-eq0 : goal.returns-then-kept-eq0
 returns-then-kept-eq0 c =
     let a = c.args in
-    stored-none a.kept.now a.stored.now _ c.if-kept-eq0.true (ap (λ (x : Actor). x.stored) c.zero_actor-z.ensures)
+    stored-none a.kept.now a.stored.now _ c.if-kept-eq0.true (ap (λ (x : Actor). x.stored) c.zero_actor.ensures)
 
-pub durable_of-d-requires : goal.durable_of-d-requires
-durable_of-d-requires c = readable _ _ c.requires
+pub durable_of-requires : goal.durable_of-requires
+durable_of-requires c = readable _ _ c.requires
 
 pub returns : goal.returns
 returns c =
     let a = c.args in
-    stored_some a.kept.now a.stored.now _ c.if-kept-eq0.false c.durable_of-d.ensures
+    stored_some a.kept.now a.stored.now _ c.if-kept-eq0.false c.durable_of.ensures

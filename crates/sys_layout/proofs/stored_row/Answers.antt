@@ -10,8 +10,8 @@ returns-then-s c =
     let r = c.durable_row-row in
     (with-stored (durable_view s.durable) s.some r.result r.ensures.0 c.if-s.true, r.ensures.1)
 
-pub returns : goal.returns
-returns c =
+pub returns-else-s : goal.returns-else-s
+returns-else-s c =
     let s = c.args.s in
     let r = c.durable_row-row in
     (without-stored (durable_view s.durable) s.some r.result r.ensures.0 c.if-s.false, r.ensures.1)

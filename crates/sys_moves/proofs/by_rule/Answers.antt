@@ -1,15 +1,16 @@
 -- What the search leaves open of `by_rule`.
-use mathlib.Core.Path.{sym, ◌∙◌}
+use mathlib.Core.Path.{refl, sym, ap, ◌∙◌}
+use lib.ListN.{length}
 use borrow.Author.Tests.{eq-eqb, ne_eqb}
 use Rattle.link_tables.specs.Rows.{orders}
 use Rattle.link_tables.proofs.Told.{row-four}
-use Rattle.sys_moves.specs.Views.{Rows, rows_of}
+use Rattle.sys_moves.specs.Views.{Rows, rows_in}
 use Rattle.sys_moves.proofs.Laws.{enough, acted-refused, acted-full, acted-plain, acted-stored}
 use borrow.Author.Rules.{rules}
 use Rattle.sys_moves.proofs.by_rule.Goals as goal
 
-pub bounds-live-0 : goal.bounds-live-0
-bounds-live-0 c = let z = c.requires.0.live.room in search rules
+pub bounds-actor-0 : goal.bounds-actor-0
+bounds-actor-0 c = let z = c.requires.0.live.room in search rules
 
 pub refusal_of-why-requires : goal.refusal_of-why-requires
 refusal_of-why-requires c = (c.requires.1, c.requires.0.live.room, c.requires.0.live.pending)
@@ -18,18 +19,21 @@ pub returns-then-not-is_done : goal.returns-then-not-is_done
 returns-then-not-is_done c =
     let a = c.args in
     let os = orders a.row.now a.source a.value in
-    let x : Rows = rows_of a.c.now a.live.now a.pend.now a.kept.now a.stored.now in
+    let x : Rows = rows_in a.net.now.cells a.actor.now in
     let why = c.refusal_of-why in
-    acted-refused a.me a.kind os a.timers a.state a.used a.len x c.requires.0 why.result (why.ensures a.source a.value)
-    (sym c.is_done.ensures ∙ c.if-not-is_done.true)
+    record {
+      rows = acted-refused a.me a.net.now.kind os a.timers a.state a.net.now.used a.net.now.len x c.requires.0 why.result (why.ensures a.source a.value)
+          (sym c.is_done.ensures ∙ c.if-not-is_done.true);
+      kind = refl;
+    }
 
 pub react_row-s-requires : goal.react_row-s-requires
 react_row-s-requires c =
     let a = c.args in
     let os = orders a.row.now a.source a.value in
-    let x : Rows = rows_of a.c.now a.live.now a.pend.now a.kept.now a.stored.now in
+    let x : Rows = rows_in a.net.now.cells a.actor.now in
     let why = c.refusal_of-why in
-    let g = enough a.me a.kind os a.timers a.state a.used a.len x c.requires.0 why.result (why.ensures a.source a.value)
+    let g = enough a.me a.net.now.kind os a.timers a.state a.net.now.used a.net.now.len x c.requires.0 why.result (why.ensures a.source a.value)
     (sym c.is_done.ensures ∙ c.if-not-is_done.false) in
     (c.requires.0.net, c.requires.1, g.0, c.requires.0.room)
 
@@ -37,22 +41,25 @@ pub returns-then-not-is_done-2 : goal.returns-then-not-is_done-2
 returns-then-not-is_done-2 c =
     let a = c.args in
     let os = orders a.row.now a.source a.value in
-    let x : Rows = rows_of a.c.now a.live.now a.pend.now a.kept.now a.stored.now in
+    let x : Rows = rows_in a.net.now.cells a.actor.now in
     let why = c.refusal_of-why in
-    let g = enough a.me a.kind os a.timers a.state a.used a.len x c.requires.0 why.result (why.ensures a.source a.value)
+    let g = enough a.me a.net.now.kind os a.timers a.state a.net.now.used a.net.now.len x c.requires.0 why.result (why.ensures a.source a.value)
     (sym c.is_done.ensures ∙ c.if-not-is_done.false) in
     let y = c.react_row-s in
-    acted-full a.me a.kind os a.timers a.state a.used a.len x c.requires.0 g.0 g.1
-    (row-four a.row.now a.source a.value c.requires.1) y.result y.new.c a.source y.ensures
-    (sym c.is_done-2.ensures ∙ c.if-not-is_done-2.true)
+    record {
+      rows = acted-full a.me a.net.now.kind os a.timers a.state a.net.now.used a.net.now.len x c.requires.0 g.0 g.1
+          (row-four a.row.now a.source a.value c.requires.1) y.result y.new.c a.source y.ensures
+          (sym c.is_done-2.ensures ∙ c.if-not-is_done-2.true);
+      kind = refl;
+    }
 
 pub settle-requires : goal.settle-requires
 settle-requires c =
     let a = c.args in
     let os = orders a.row.now a.source a.value in
-    let x : Rows = rows_of a.c.now a.live.now a.pend.now a.kept.now a.stored.now in
+    let x : Rows = rows_in a.net.now.cells a.actor.now in
     let why = c.refusal_of-why in
-    let g = enough a.me a.kind os a.timers a.state a.used a.len x c.requires.0 why.result (why.ensures a.source a.value)
+    let g = enough a.me a.net.now.kind os a.timers a.state a.net.now.used a.net.now.len x c.requires.0 why.result (why.ensures a.source a.value)
     (sym c.is_done.ensures ∙ c.if-not-is_done.false) in
     (c.requires.1, c.requires.0.live, c.requires.2, g.1, g.0)
 
@@ -63,37 +70,43 @@ bounds-row-15 c =
 
 pub store-requires : goal.store-requires
 store-requires c =
-    (c.settle.ensures.laid, c.requires.0.kept.places)
+    (c.settle.ensures.live.laid, ap length c.settle.ensures.stored ∙ c.requires.0.kept.places)
 
 pub returns-then-row-eq1 : goal.returns-then-row-eq1
 returns-then-row-eq1 c =
     let a = c.args in
     let os = orders a.row.now a.source a.value in
-    let x : Rows = rows_of a.c.now a.live.now a.pend.now a.kept.now a.stored.now in
+    let x : Rows = rows_in a.net.now.cells a.actor.now in
     let why = c.refusal_of-why in
-    let g = enough a.me a.kind os a.timers a.state a.used a.len x c.requires.0 why.result (why.ensures a.source a.value)
+    let g = enough a.me a.net.now.kind os a.timers a.state a.net.now.used a.net.now.len x c.requires.0 why.result (why.ensures a.source a.value)
     (sym c.is_done.ensures ∙ c.if-not-is_done.false) in
     let z = c.settle in
     let k = c.store in
     let y = c.react_row-s in
-    acted-stored a.me a.kind os a.timers a.state a.used a.len x c.requires.0 g.0 g.1
-    (row-four a.row.now a.source a.value c.requires.1) y.result y.new.c a.source y.ensures
-    (sym c.is_done-2.ensures ∙ c.if-not-is_done-2.false)
-    z.new.live z.new.pend z.ensures
-    (sym (c.requires.1.durable a.source a.value) ∙ eq-eqb _ _ c.if-row-eq1.true)
-    k.new.kept k.new.stored k.ensures
+    record {
+      rows = rw (k.ensures.live, k.ensures.pend) (acted-stored a.me a.net.now.kind os a.timers a.state a.net.now.used a.net.now.len x c.requires.0 g.0 g.1
+          (row-four a.row.now a.source a.value c.requires.1) y.result y.new.c a.source y.ensures
+          (sym c.is_done-2.ensures ∙ c.if-not-is_done-2.false)
+          z.new.self.live z.new.self.pend z.ensures.live
+          (sym (c.requires.1.durable a.source a.value) ∙ eq-eqb _ _ c.if-row-eq1.true)
+          k.new.self.kept k.new.self.stored k.ensures.kept);
+      kind = refl;
+    }
 
-pub returns : goal.returns
-returns c =
+pub returns-else-row-eq1 : goal.returns-else-row-eq1
+returns-else-row-eq1 c =
     let a = c.args in
     let os = orders a.row.now a.source a.value in
-    let x : Rows = rows_of a.c.now a.live.now a.pend.now a.kept.now a.stored.now in
+    let x : Rows = rows_in a.net.now.cells a.actor.now in
     let why = c.refusal_of-why in
-    let g = enough a.me a.kind os a.timers a.state a.used a.len x c.requires.0 why.result (why.ensures a.source a.value)
+    let g = enough a.me a.net.now.kind os a.timers a.state a.net.now.used a.net.now.len x c.requires.0 why.result (why.ensures a.source a.value)
     (sym c.is_done.ensures ∙ c.if-not-is_done.false) in
     let z = c.settle in
     let y = c.react_row-s in
-    acted-plain a.me a.kind os a.timers a.state a.used a.len x c.requires.0 g.0 g.1
-    (row-four a.row.now a.source a.value c.requires.1) y.result y.new.c a.source y.ensures
-    (sym c.is_done-2.ensures ∙ c.if-not-is_done-2.false)
-    z.new.live z.new.pend z.ensures (sym (c.requires.1.durable a.source a.value) ∙ ne_eqb _ _ c.if-row-eq1.false)
+    record {
+      rows = rw (z.ensures.kept, z.ensures.stored) (acted-plain a.me a.net.now.kind os a.timers a.state a.net.now.used a.net.now.len x c.requires.0 g.0 g.1
+          (row-four a.row.now a.source a.value c.requires.1) y.result y.new.c a.source y.ensures
+          (sym c.is_done-2.ensures ∙ c.if-not-is_done-2.false)
+          z.new.self.live z.new.self.pend z.ensures.live (sym (c.requires.1.durable a.source a.value) ∙ ne_eqb _ _ c.if-row-eq1.false));
+      kind = refl;
+    }

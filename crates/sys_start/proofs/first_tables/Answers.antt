@@ -1,30 +1,25 @@
 -- What the search leaves open of `first_tables`.
 use borrow.Author.Rules.{rules}
 use native.Mathlib.Omega.{arith}
-use mathlib.Core.Path.{◌≡◌, ap, ◌∙◌}
-use lib.ListN.{length, take}
+use mathlib.Core.Path.{◌≡◌, ap, sym, ◌∙◌}
+use mathlib.Core.List.{List, ◌++◌}
+use Prim.Native.Nat.{ℕ, ◌-◌}
+use lib.ListN.{length, take, replicate}
+use lib.Seq.{length-take-le}
+use Rattle.std.proofs.lemmas.List.{drop-replicate}
 use Rattle.types.specs.Capacities.{most_actors}
 use Rattle.lists.specs.Lists.{pad}
 use Rattle.lists.proofs.Places.{length-mapped}
+use Rattle.link_inner.specs.declared.Table.{Table}
 use Rattle.link_inner.specs.Views.{zero_table}
-use Rattle.sys_formed.proofs.Outside.{no_table}
-use Rattle.sys_start.proofs.First.{copied_on}
 use Rattle.sys_start.proofs.first_tables.Goals as goal
 
-pub loop-i-init : goal.loop-i-init
-unfolding pad
-loop-i-init c = (search rules, search rules, rw c.zero_table-zero.ensures)
-
-pub loop-i-preserved : goal.loop-i-preserved
-loop-i-preserved c =
-    let a = c.args in
-    let l = c.loop-i in
-    let n : length a.tables ≡ most_actors = search (rules, length-mapped) in
-    (search rules, search rules, copied_on most_actors zero_table a.tables l.own l.i no_table (omega arith) (omega arith) l.invariant.2)
-
 pub returns : goal.returns
+unfolding pad
 returns c =
     let a = c.args in
-    let l = c.loop-i in
-    let e : l.i ≡ a.count = omega arith in
-    l.invariant.2 ∙ ap (λ j. pad most_actors zero_table (take j a.tables)) e
+    let own = take a.count a.tables in
+    let room : length a.tables ≡ most_actors = search (rules, length-mapped) in
+    let many : length own ≡ a.count = length-take-le a.count a.tables (omega arith) in
+    rw (c.zero_table-own.ensures, c.copy_from_slice.ensures.after) (ap (λ (l : List Table). own ++ l) (drop-replicate a.count most_actors zero_table
+    ∙ ap (λ (n : ℕ). replicate (most_actors - n) zero_table) (sym many)))

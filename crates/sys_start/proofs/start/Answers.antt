@@ -6,6 +6,7 @@ use Rattle.answers.specs.Answers.{answer_of}
 use Rattle.rules.specs.Start.{blank}
 use Rattle.sys_system.specs.Views.{system_of}
 use Rattle.sys_answered.specs.Views.{answered_of}
+use Rattle.sys_moves.specs.Views.{sent_in}
 use Rattle.sys_start.proofs.Tests.{fine_of}
 use Rattle.sys_start.proofs.First.{tables-say, tables-laid}
 use Rattle.sys_start.proofs.Laws.{start-refused, start-full, start-wakes}
@@ -18,9 +19,11 @@ returns-then-not-startable c =
     c.refused.ensures ∙ sym (ap (answered_of (system_of blank)) (start-refused a.kind a.count a.tables a.given
     (sym c.startable.ensures ∙ c.if-not-startable.true)))
 
-pub fill-s-requires : goal.fill-s-requires
-fill-s-requires c =
+pub fill-answer-requires : goal.fill-answer-requires
+fill-answer-requires c =
     let a = c.args in (
+      refl,
+      refl,
       refl,
       (fine_of a.kind a.count a.tables a.given (tables-say most_actors a.tables _ c.well_formed.1.1.0).0
           (sym c.startable.ensures ∙ c.if-not-startable.false)).held,
@@ -30,8 +33,8 @@ pub returns-then-not-is_done : goal.returns-then-not-is_done
 returns-then-not-is_done c =
     let a = c.args in
     c.refused-then-not-is_done.ensures
-    ∙ start-full a.kind a.count a.tables a.given c.kind_of-k.result c.kind_of-k.ensures
-    (sym c.startable.ensures ∙ c.if-not-startable.false) c.fill-s.result c.fill-s.new.c c.fill-s.ensures
+    ∙ start-full a.kind a.count a.tables a.given c.kind_of.result c.kind_of.ensures
+    (sym c.startable.ensures ∙ c.if-not-startable.false) (sent_in c.fill-answer.result c.fill-answer.new.net) c.fill-answer.new.net.cells c.fill-answer.ensures.0
     (sym c.is_done.ensures ∙ c.if-not-is_done.true)
 
 pub wake_all-requires : goal.wake_all-requires
@@ -40,8 +43,8 @@ wake_all-requires c =
     let y = tables-say most_actors a.tables _ c.well_formed.1.1.0 in
     let e = fine_of a.kind a.count a.tables a.given y.0 (sym c.startable.ensures ∙ c.if-not-startable.false) in
     record {
-      net = c.fill-s.ensures.net;
-      room = c.fill-s.ensures.room;
+      net = rw c.fill-answer.ensures.1 c.fill-answer.ensures.0.net;
+      room = c.fill-answer.ensures.0.room;
       few = e.few;
       fine = e.tables-ok;
       laid = tables-laid a.count a.tables y.1 e.tables-ok;
@@ -50,7 +53,7 @@ wake_all-requires c =
 pub returns : goal.returns
 returns c =
     let a = c.args in
-    c.wake_all.ensures ∙ ap (answered_of (system_of blank))
-    (start-wakes a.kind a.count a.tables a.given c.kind_of-k.result c.kind_of-k.ensures
-    (sym c.startable.ensures ∙ c.if-not-startable.false) c.fill-s.result c.fill-s.new.c c.fill-s.ensures
+    rw c.fill-answer.ensures.1 at c.wake_all.ensures ∙ ap (answered_of (system_of blank))
+    (start-wakes a.kind a.count a.tables a.given c.kind_of.result c.kind_of.ensures
+    (sym c.startable.ensures ∙ c.if-not-startable.false) (sent_in c.fill-answer.result c.fill-answer.new.net) c.fill-answer.new.net.cells c.fill-answer.ensures.0
     (sym c.is_done.ensures ∙ c.if-not-is_done.false))

@@ -3,4 +3,4 @@
 use Rattle.sys_start.proofs.system_of.Goals as goal
 
 pub returns : goal.returns
-returns c = rw (c.read_back-network.ensures, c.first_tables-own.ensures)
+returns c = rw (c.read_back.ensures, c.first_tables.ensures)

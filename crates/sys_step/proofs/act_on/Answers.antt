@@ -6,22 +6,22 @@ use borrow.Author.Rules.{rules}
 use Rattle.sys_step.proofs.act_on.Goals as goal
 
 -- the seat is a place of the arrays
-pub offset_bounds-actors-i : goal.offset_bounds-actors-i
-offset_bounds-actors-i c =
+pub offset_bounds-s-i : goal.offset_bounds-s-i
+offset_bounds-s-i c =
     let h = below c.args.s c.requires c.args.a _ c.seat-i.ensures no-actor no_table in
     search (rules, h)
 
-pub bounds-actors-i : goal.bounds-actors-i
-bounds-actors-i c =
+pub bounds-s-i : goal.bounds-s-i
+bounds-s-i c =
     below c.args.s c.requires c.args.a _ c.seat-i.ensures no-actor no_table
 
-pub offset_bounds-tables-i : goal.offset_bounds-tables-i
-offset_bounds-tables-i c =
+pub offset_bounds-s-i-2 : goal.offset_bounds-s-i-2
+offset_bounds-s-i-2 c =
     let h = below c.args.s c.requires c.args.a _ c.seat-i.ensures no-actor no_table in
     search (rules, h)
 
-pub bounds-tables-i : goal.bounds-tables-i
-bounds-tables-i c =
+pub bounds-s-i-2 : goal.bounds-s-i-2
+bounds-s-i-2 c =
     below c.args.s c.requires c.args.a _ c.seat-i.ensures no-actor no_table
 
 pub touch-t-requires : goal.touch-t-requires

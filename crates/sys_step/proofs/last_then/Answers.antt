@@ -13,15 +13,3 @@ returns-in-Deliver c =
 pub returns-in-Drop : goal.returns-in-Drop
 unfolding last_then
 returns-in-Drop c = search rules
-
-pub returns-in-Timeout : goal.returns-in-Timeout
-unfolding last_then
-returns-in-Timeout c = search rules
-
-pub returns-in-Crash : goal.returns-in-Crash
-unfolding last_then
-returns-in-Crash c = search rules
-
-pub returns-in-Recover : goal.returns-in-Recover
-unfolding last_then
-returns-in-Recover c = search rules

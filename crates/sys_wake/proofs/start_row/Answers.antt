@@ -2,12 +2,12 @@
 use Rattle.sys_wake.proofs.Loads.{row-found, row-none}
 use Rattle.sys_wake.proofs.start_row.Goals as goal
 
-pub returns-then-at-rules : goal.returns-then-at-rules
-returns-then-at-rules c =
+pub returns-then-at-table : goal.returns-then-at-table
+returns-then-at-table c =
     let a = c.args in
-    row-found a.table.now a.rules a.event a.value c.first_match-at.result c.first_match-at.ensures c.if-at-rules.true
+    row-found a.table.now.rows a.table.now.used a.event a.value c.first_match-at.result c.first_match-at.ensures c.if-at-table.true
 
-pub returns : goal.returns
-returns c =
+pub returns-else-at-table : goal.returns-else-at-table
+returns-else-at-table c =
     let a = c.args in
-    row-none a.table.now a.rules a.event a.value c.first_match-at.result c.first_match-at.ensures c.if-at-rules.false
+    row-none a.table.now.rows a.table.now.used a.event a.value c.first_match-at.result c.first_match-at.ensures c.if-at-table.false

@@ -6,4 +6,4 @@ use Rattle.link_timers.proofs.Listed.{listed-set}
 use Rattle.sys_wake.proofs.with_network.Goals as goal
 
 pub returns : goal.returns
-returns c = ap (λ (h : Change). listed h.timers.0) c.set-h.ensures ∙ listed-set _ _
+returns c = ap (λ (h : Change). listed h.timers.0) c.set.ensures ∙ listed-set _ _

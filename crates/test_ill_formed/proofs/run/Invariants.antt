@@ -1,10 +1,7 @@
--- `run` ends and cuts within the text: a line's colon stands at or behind its beginning, its end at or behind its colon.
+-- `run` ends: each line takes a byte or more of what is left.
 -- Assumes nothing.
-use Rattle.std.proofs.Common.{◌+◌, ◌≤◌, ◌-◌, length}
+use Rattle.std.proofs.Common.{length}
 use Rattle.test_ill_formed.proofs.run.Given as goal
 
-abbrev pub invariant-loop-at : goal.invariant-loop-at
-invariant-loop-at g l = l.at ≤ length l.text + 1
-
-abbrev pub decreases-loop-at : goal.decreases-loop-at
-decreases-loop-at g l = length l.text + 1 - l.at
+abbrev pub decreases-loop-rest : goal.decreases-loop-rest
+decreases-loop-rest g l = length l.rest

@@ -4,8 +4,8 @@ use mathlib.Core.Path.{◌≡◌}
 use lib.ListN.{length}
 use Rattle.test_states.proofs.states_from.Given as goal
 
-abbrev pub invariant-loop-a : goal.invariant-loop-a
-invariant-loop-a l = (length l.out ≡ length l.initial.out) × (l.end ≤ length l.out)
+abbrev pub invariant-loop-action : goal.invariant-loop-action
+invariant-loop-action l = (length l.out ≡ length l.initial.out) × (l.end ≤ length l.out)
 
-abbrev pub decreases-loop-a : goal.decreases-loop-a
-decreases-loop-a l = length l.script - l.at
+abbrev pub decreases-loop-action : goal.decreases-loop-action
+decreases-loop-action l = length l.script - l.at

@@ -2,7 +2,7 @@
 use mathlib.Core.Path.{sym}
 use borrow.Author.Rules.{rules}
 use Rattle.link_timers.proofs.First.{first-none}
-use Rattle.link_timers.proofs.Words.{next-nothing, next-timer}
+use Rattle.link_timers.proofs.Words.{next-none, next-timer}
 use Rattle.link_timers.proofs.Timers.next.Goals as goal
 
 pub returns-then-from-gt-NETWORK : goal.returns-then-from-gt-NETWORK
@@ -11,7 +11,7 @@ returns-then-from-gt-NETWORK c = sym (first-none c.args.self.0 c.args.from (sear
 pub returns-then-zeros : goal.returns-then-zeros
 returns-then-zeros c =
     let a = c.args in
-    next-nothing a.self.0 a.from (search rules) (search rules) c.if-zeros.true
+    next-none a.self.0 a.from (search rules) (search rules) c.if-zeros.true
 
 pub returns : goal.returns
 returns c =

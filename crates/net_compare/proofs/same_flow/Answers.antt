@@ -1,8 +1,0 @@
--- The test of the comparison: both are what their contracts say.
--- Assumes nothing.
-use mathlib.Core.Path.{ap, ◌∙◌}
-use Rattle.types.specs.Order.{is_equal}
-use Rattle.net_compare.proofs.same_flow.Goals as goal
-
-pub returns : goal.returns
-returns c = c.is_equal.ensures ∙ ap is_equal c.compare_flows.ensures

@@ -1,0 +1,22 @@
+-- What is left of the cells is the rules' outcome on the view. The last message stands apart from the cells.
+-- Assumes nothing.
+use Rattle.net_network.proofs.Changes.{cells-ready, deliver-back}
+use Rattle.net_network.proofs.on_deliver.Goals as goal
+
+pub on_deliver-s-requires : goal.on_deliver-s-requires
+on_deliver-s-requires c =
+    let w = c.cells_of-cells in
+    cells-ready c.args.n c.requires w.result w.ensures c.len.result c.len.ensures
+
+pub read_back-requires : goal.read_back-requires
+read_back-requires c =
+    let w = c.cells_of-cells in
+    let s = c.on_deliver-s in
+    (deliver-back c.args.n c.requires w.result w.ensures c.len.result c.len.ensures s.result s.new.c c.args.e (s.ensures c.args.n.last)).0
+
+pub returns : goal.returns
+returns c =
+    let w = c.cells_of-cells in
+    let s = c.on_deliver-s in
+    rw (c.read_back.ensures, c.last_after-last.ensures)
+    (deliver-back c.args.n c.requires w.result w.ensures c.len.result c.len.ensures s.result s.new.c c.args.e (s.ensures c.args.n.last)).1
