@@ -59,6 +59,11 @@ rule_parts r =
     rw (slots_used r, all_list unused (drop r.used r.commands))
     (every_append (range_tests r) (start_test r ∷ keep_test r ∷ all (command_ok r.event) (commands_of r) ∷ all unused (drop r.used r.commands) ∷ []))
 
+pub ranges-used : (r : Rule) → ranges r ≡ true → r.used ≤ most_commands
+unfolding ranges
+ranges-used r e =
+    let a = every-cons _ _ e in let b = every-cons _ _ a.1 in let c = every-cons _ _ b.1 in leb-true _ _ (every-cons _ _ c.1).0
+
 -- ---- a table: the count of its rules fits where its own count does
 few : (n : ℕ) (l : List Rule) → leb n most_rules ≡ true → leb (length (take n l)) most_rules ≡ true
 few n l h = le-leb _ _ (omega (arith, leb-true n most_rules h, length-take {A = Rule}))

@@ -2,18 +2,18 @@
 -- Assumes nothing.
 use Prim.Native.Nat.{ℕ, zero, suc, ◌+◌, ◌-◌, ◌≤◌, ◌<◌}
 use native.Mathlib.Omega.{arith}
-use mathlib.Core.Path.{◌≡◌, refl, sym, ap, ap₂, ◌∙◌}
+use mathlib.Core.Path.{◌≡◌, refl, sym, ap, ◌∙◌}
 use mathlib.Core.Bool.{true, not}
 use lib.Dec.{eqb}
 use borrow.Author.Tests.{ne_eqb}
 use Rattle.std.specs.Bool.{then_some}
-use mathlib.Core.List.{List, [], ◌∷◌, ◌++◌, map}
-use lib.ListN.{length, take, drop, get_or, set, replicate, length-map}
-use Rattle.std.proofs.lemmas.List.{map-append, replicate-append-replicate}
-use Rattle.std.proofs.Common.{append_assoc}
+use mathlib.Core.List.{List, ◌∷◌, map}
+use lib.ListN.{length, take, drop, get_or, set, length-map, length-take}
 use lib.Seq.{length-take-le, take_all}
 use Rattle.link_durable.specs.declared.Filled.{Filled}
 use Rattle.lists.specs.Lists.{pad}
+use Rattle.lists.proofs.Places.{fill_more, length-pad}
+use Rattle.types.specs.declared.Number.{Number}
 use Rattle.types.specs.Capacities.{most_pending, most_actors}
 use Rattle.std.specs.Prelude.{Option, Some, None}
 use Rattle.link_durable.specs.declared.Durable.{Durable}
@@ -22,31 +22,16 @@ use Rattle.link_durable.proofs.Containers.{counts}
 use Rattle.link_rows.specs.Rows.{row_size, pending_in, number_in, storage_in, durable_in}
 use Rattle.link_layout.specs.Rows.{word_of, taken_of, saves_of, value_of, row_of}
 
--- An array of which each place is what f makes of the same place of another.
-pub maps-each : {A B : Type 0} (f : A → B) (xs : List A) (ys : List B) → length ys ≡ length xs
-    → ((i : ℕ) (d : A) (e : B) → i < length xs → get_or ys i e ≡ f (get_or xs i d)) → ys ≡ map f xs
-maps-each f [] [] n h = refl
-maps-each f [] (y ∷ ys) n h = absurd (omega arith)
-maps-each f (x ∷ xs) [] n h = absurd (omega arith)
-maps-each {B = B} f (x ∷ xs) (y ∷ ys) n h =
-    ap₂ (λ (a : B) (l : List B). a ∷ l) (h 0 x y (omega arith)) (maps-each f xs ys (omega arith) (λ i d e b. h (suc i) d e (omega arith)))
+-- One number more, past the first eight places.
+pub fill-after : (es : List Number) (d : Number) (i : ℕ) (r : List ℕ) → i < most_actors → i < length es → r ≡ taken_of (take i es)
+    → set r (8 + i) (get_or es i d).0 ≡ taken_of (take (i + 1) es)
+fill-after es d i r h k q =
+    let e : 8 + i ≡ suc (suc (suc (suc (suc (suc (suc (suc i))))))) = omega arith in
+    rw (q, e) (ap (λ (l : List ℕ). 0 ∷ 0 ∷ 0 ∷ 0 ∷ 0 ∷ 0 ∷ 0 ∷ 0 ∷ l)
+    (fill_more word_of d es i k (row_size - 8) 0 _ _ (omega arith) refl refl))
 
-map-fill : {A B : Type 0} (f : A → B) (k : ℕ) (z : A) (w : B) → f z ≡ w → map f (replicate k z) ≡ replicate k w
-map-fill f zero z w e = refl
-map-fill {B = B} f (suc k) z w e = ap₂ (λ (a : B) (l : List B). a ∷ l) e (map-fill f k z w e)
-
-pub map-pad : {A B : Type 0} (f : A → B) (n : ℕ) (z : A) (w : B) (l : List A) → f z ≡ w → map f (pad n z l) ≡ pad n w (map f l)
-unfolding pad
-map-pad {B = B} f n z w l e =
-    map-append f l (replicate (n - length l) z) ∙ ap (λ (r : List B). map f l ++ r) (map-fill f (n - length l) z w e)
-    ∙ ap (λ (k : ℕ). map f l ++ replicate (n - k) w) (sym (length-map l f))
-
--- An array of n places, and m places more.
-pub pad-more : {A : Type 0} (n m : ℕ) (z : A) (l : List A) → length l ≤ n → pad n z l ++ replicate m z ≡ pad (n + m) z l
-unfolding pad
-pad-more {A = A} n m z l h =
-    rw append_assoc
-    (ap (λ (r : List A). l ++ r) (replicate-append-replicate (n - length l) m z) ∙ ap (λ (k : ℕ). l ++ replicate k z) (omega arith))
+pub filled : {A B : Type 0} (f : A → B) (n : ℕ) (z : B) (es : List A) (i : ℕ) → i ≤ n → length (pad n z (map f (take i es))) ≡ n
+filled f n z es i h = let a = length-map (take i es) f in let b = length-take i es in length-pad n z (map f (take i es)) (omega arith)
 
 -- ---- what is read off a slice, once all of it was read
 pub read-whole : {A B : Type 0} (n : ℕ) (z : B) (r : A → B) (items : List A) (places : List B) (i : ℕ) → length items ≤ i

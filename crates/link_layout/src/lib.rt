@@ -25,7 +25,12 @@ pub fn pending_rows(d: Durable) -> [[u64; RECORD]; MOST_PENDING]
     requires { durable_laid d ≡ true }
     ensures { (result ≡ records_of (durable_view d)) × Sendable result (length (pending_list d.pending)) }
 {
-    d.pending.places.map(record_of)
+    let pending = d.pending;
+    let mut rows = [[0; RECORD]; MOST_PENDING];
+    for (i, q) in pending.places[..pending.used].iter().enumerate() {
+        rows[i] = record_of(*q);
+    }
+    rows
 }
 
 // The numbers last taken, with nothing in front of them.
@@ -33,9 +38,10 @@ fn taken_row(t: Taken) -> [u64; ROW]
     requires { taken_laid t ≡ true }
     ensures { result ≡ taken_of (taken_list t) }
 {
-    let numbers = t.places.map(|n| n.0);
     let mut row = [0; ROW];
-    row[8..8 + MOST_ACTORS].copy_from_slice(&numbers);
+    for (i, n) in t.places[..t.used].iter().enumerate() {
+        row[8 + i] = n.0;
+    }
     row
 }
 

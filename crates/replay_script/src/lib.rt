@@ -33,9 +33,8 @@ fn tell_run(script: &[u8], out: &mut [u8], write: bool) -> usize
     let o = open(script);
     let from = o.next;
     let version = o.version;
-    let started = o.answered;
-    let answer = started.answer;
-    let s = started.system;
+    let answer = o.answered.answer;
+    let s = o.answered.system;
     let network = s.network;
     let number = number_of(answer);
     let len = net_network::len(network);

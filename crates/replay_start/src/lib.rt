@@ -40,18 +40,17 @@ fn unreadable(place: usize) -> Opened
 pub fn open(script: &[u8]) -> Opened
     ensures { result ≡ opened_of (opening_from versions script.now 0) }
 {
-    match read_opening(script) {
-        Ok((o, next)) => {
-            let tables = o.tables.list;
-            let list = o.envelopes.list;
-            let used = o.envelopes.used;
-            let answered = start(o.kind, o.tables.used, tables, Given { list, used });
-            Opened {
-                answered,
-                version: o.version,
-                next,
-            }
-        }
-        Err(BadAt(place)) => unreadable(place),
+    let (o, next) = match read_opening(script) {
+        Ok(read) => read,
+        Err(BadAt(place)) => return unreadable(place),
+    };
+    let tables = o.tables.list;
+    let list = o.envelopes.list;
+    let used = o.envelopes.used;
+    let answered = start(o.kind, o.tables.used, tables, Given { list, used });
+    Opened {
+        answered,
+        version: o.version,
+        next,
     }
 }

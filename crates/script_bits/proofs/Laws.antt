@@ -21,6 +21,31 @@ byte-is xs at i e h =
     let z : get_or xs (at / 8) 0 / 2 ^ 0 % 2 ^ 8 ≡ get_or xs i 0 = rw q (omega arith) in
     sym (w ∙ z)
 
+-- two fields side by side, each moved up by itself, are both moved up
+pub raised
+    : (xs : List ℕ) (at next j k a b : ℕ) → next ≡ at + j → a ≡ field_at xs at j * 2 ^ (k + j) → b ≡ field_at xs next j * 2 ^ k
+    → a + b ≡ field_at xs at (j + j) * 2 ^ k
+raised xs at next j k a b n p q =
+    let x = field_at xs at j in
+    let y = field_at xs (at + j) j in
+    let e : x * 2 ^ (k + j) ≡ x * 2 ^ j * 2 ^ k = rw (add_comm k j, pow-add 2 j k) (sym (mul_assoc x (2 ^ j) (2 ^ k))) in
+    rw (p, q, n, e, ← add-mul (x * 2 ^ j) y (2 ^ k), ← field-add xs at j j)
+
+-- a field that is moved up fits, and nothing is moved out
+pub raised-fits : (xs : List ℕ) (at j k : ℕ) → j + k ≤ 64 → field_at xs at j * 2 ^ k < 2 ^ 64
+raised-fits xs at j k h = lt_of_lt_of_le (shl_lt j k (field_lt xs at j)) (pow_mono h)
+
+pub pair_is
+    : (xs : List ℕ) (i k : ℕ) → get_or xs i 0 < 256 → get_or xs (i + 1) 0 < 256 → k ≤ 48
+    → get_or xs i 0 * 2 ^ (k + 8) % 2 ^ 64 + get_or xs (i + 1) 0 * 2 ^ k % 2 ^ 64 ≡ field_at xs (8 * i) 16 * 2 ^ k
+pair_is xs i k g h l =
+    raised xs (8 * i) (8 * i + 8) 8 k _ _ refl
+    (byte-raised (8 * i) i (k + 8) refl g (omega arith))
+    (byte-raised (8 * i + 8) (i + 1) k (omega arith) h (omega arith))
+  where
+    byte-raised : (at i k : ℕ) → at ≡ 8 * i → get_or xs i 0 < 256 → k ≤ 56 → get_or xs i 0 * 2 ^ k % 2 ^ 64 ≡ field_at xs at 8 * 2 ^ k
+    byte-raised at i k e h g = shl_exact 8 k 64 h (omega arith) ∙ ap (λ (x : ℕ). x * 2 ^ k) (byte-is xs at i e h)
+
 -- ---- bytes behind the k that were read
 module _ (xs : List ℕ) (i k n : ℕ) (e : n ≡ field_at xs (8 * i) (8 * k)) where
   pub one_more : {j : ℕ} → j ≡ i + k → get_or xs j 0 < 256 → n * 256 + get_or xs j 0 ≡ field_at xs (8 * i) (8 * k + 8)

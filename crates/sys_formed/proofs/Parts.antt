@@ -34,6 +34,7 @@ module _ (s : System) (typed : SystemTyped s) where
   -- An answer that is the parts' is the test's, and is true of systems that are laid out alone.
   pub told : (r : Bool) → asked ≡ r → (r ≡ system_fine s) × (r ≡ true → SystemLaid s)
   unfolding every
-  told r e = tells (system_fine s) r (fine-laid s typed) (sym (fine-tests s typed ∙ grouped (leb 1 s.count) (leb s.count most_actors) (net_formed s.network s.count)
+  told r e = tells (system_fine s) r (fine-laid s typed) (sym (fine-tests s typed
+      ∙ grouped (leb 1 s.count) (leb s.count most_actors) (net_formed s.network s.count)
       (all (actor_fine s.count) (take s.count s.actors)) (all table_ok (take s.count s.tables)) (all blank_actor (drop s.count s.actors))
       (all blank_table (drop s.count s.tables)) ∙ e))

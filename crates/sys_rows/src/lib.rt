@@ -7,7 +7,7 @@ ghost use Rattle.rules.specs.Link.{acked};
 ghost use Rattle.link_rows.specs.Rows.{row_size, durable_in};
 ghost use Rattle.link_direct.specs.Direct.{noted, sends};
 ghost use Rattle.link_tables.specs.Rows.{RowLaid, orders};
-ghost use Rattle.sys_rows.specs.Rows.{fresh_row, fresh_rows, TailLaid, RowsLaid, Noticed, SettledIn, KeptIn};
+ghost use Rattle.sys_rows.specs.Rows.{fresh_row, fresh_rows, TailLaid, RowsLaid, Settled, Noticed, SettledIn, KeptIn};
 
 use link_notes::note;
 use link_rows::{RECORD, ROW, drop_acked};
@@ -58,6 +58,36 @@ pub fn put_marks(live: &mut [u64], timers: u64, state: u64)
     live[7] = state;
 }
 
+// A rule's commands are noted, and its timers and state put in place. Lent the live rows alone: a caller without stored ones can ask for it.
+pub fn settle(
+    live: &mut [u64; ROW],
+    pend: &mut [[u64; RECORD]; MOST_PENDING],
+    row: &[u64],
+    source: Id,
+    value: u32,
+    timers: u32,
+    state: u64,
+)
+    requires { RowLaid row.now × RowsLaid live.old pend.old × (state ≤ last_state)
+        × (get_or live.old 1 0 + sends (orders row.now source value) ≤ most_pending)
+        × (get_or live.old 0 0 + sends (orders row.now source value) ≤ 18446744073709551615) }
+    ensures { Settled (noted (orders row.now source value) (durable_in live.old pend.old)) timers state
+        live.old live.new pend.new }
+{
+    note(live, pend, row, source, value);
+    put_marks(live, timers as u64, state);
+}
+
+// A number is acked.
+pub fn settle_ack(live: &mut [u64; ROW], pend: &mut [[u64; RECORD]; MOST_PENDING], number: u64)
+    requires { RowsLaid live.old pend.old }
+    ensures { Settled (acked (record { 0 = number }) (durable_in live.old pend.old))
+        (get_or live.old 6 0) (get_or live.old 7 0)
+        live.old live.new pend.new }
+{
+    drop_acked(live, pend, number);
+}
+
 // The number of a message that is taken is noted for its source.
 pub fn take_number(live: &mut [u64], source: u64, number: u64)
     requires { (length live.old ≡ row_size) × (source < most_actors) × TailLaid (drop 4 live.old) }
@@ -92,7 +122,7 @@ impl ActorRows {
         copy_rows(&self.pend, &mut self.stored, self.live[1] as usize);
     }
 
-    // A rule's commands are noted, and its timers and state put in place.
+    // The live rows are settled, and what is stored stays.
     pub fn settle(&mut self, row: &[u64], source: Id, value: u32, timers: u32, state: u64)
         requires { RowLaid row.now × RowsLaid self.old.live self.old.pend × (state ≤ last_state)
             × (get_or self.old.live 1 0 + sends (orders row.now source value) ≤ most_pending)
@@ -100,17 +130,24 @@ impl ActorRows {
         ensures { SettledIn (noted (orders row.now source value) (durable_in self.old.live self.old.pend)) timers state
             self.old self.new }
     {
-        note(&mut self.live, &mut self.pend, row, source, value);
-        put_marks(&mut self.live, timers as u64, state);
+        settle(
+            &mut self.live,
+            &mut self.pend,
+            row,
+            source,
+            value,
+            timers,
+            state,
+        );
     }
 
-    // A number is acked.
+    // The same of an Ack.
     pub fn settle_ack(&mut self, number: u64)
         requires { RowsLaid self.old.live self.old.pend }
         ensures { SettledIn (acked (record { 0 = number }) (durable_in self.old.live self.old.pend))
             (get_or self.old.live 6 0) (get_or self.old.live 7 0)
             self.old self.new }
     {
-        drop_acked(&mut self.live, &mut self.pend, number);
+        settle_ack(&mut self.live, &mut self.pend, number);
     }
 }

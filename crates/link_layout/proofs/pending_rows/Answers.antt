@@ -1,29 +1,33 @@
--- `link_layout::pending_rows` meets its contract. Each record is laid out, and those that are not used are zero, as their rows are.
+-- What the search leaves open of `pending_rows`.
 -- Assumes nothing.
-use Rattle.std.proofs.Common.{rules, ◌≡◌, ◌<◌, ℕ, List, [], refl, ap, ◌∙◌, arith, length, get_or, map}
-use Rattle.lists.proofs.Places.{length-mapped}
+use Rattle.std.proofs.Common.{rules, ◌≡◌, arith, refl, ap, ◌∙◌, length, take, length-take-le}
+use Rattle.lists.specs.Lists.{pad}
+use Rattle.lists.proofs.Places.{fill_more, length-mapped}
 use Rattle.types.specs.Capacities.{most_pending}
-use Rattle.types.specs.declared.Pending.{Pending}
-use Rattle.link_durable.specs.Views.{zero_pending, pending_list}
-use Rattle.link_durable.proofs.Containers.{durable-parts, pendings-are, count}
+use Rattle.link_durable.specs.Views.{zero_pending}
+use Rattle.link_durable.proofs.Containers.{counts}
+use Rattle.link_rows.proofs.Heads.{sendable-more}
 use Rattle.link_layout.specs.Rows.{record_of, no_record}
-use Rattle.link_layout.proofs.Laws.{maps-each, map-pad}
+use Rattle.link_layout.proofs.Laws.{filled}
 use Rattle.link_layout.proofs.pending_rows.Goals as goal
 
-pub returns : goal.returns
-returns c =
+pub shared_ref_as_front-q-items : goal.shared_ref_as_front-q-items
+shared_ref_as_front-q-items c = (counts c.args.d c.requires).0
+
+pub loop-i-init : goal.loop-i-init
+unfolding pad
+loop-i-init c = (refl, record { dst = λ i h. absurd (omega arith); payload = λ i h. absurd (omega arith) })
+
+pub loop-i-preserved : goal.loop-i-preserved
+loop-i-preserved c =
+    let l = c.loop-i in
     let p = c.args.d.pending in
     let n : length p.places ≡ most_pending = search (rules, length-mapped) in
-    let laid = pendings-are p n (durable-parts c.args.d c.requires).0 in
-    let rows = c.map.result in
-    let of : (i : ℕ) (q : Pending) (r : List ℕ) → i < most_pending
-    → (get_or rows i r ≡ record_of (get_or p.places i q)) × ((get_or p.places i q).dst.0 < 256) × ((get_or p.places i q).payload.0 < 4294967296)
-    = λ i q r b. (c.map.ensures.items.at i q r b).2.met in
-    let e : rows ≡ map record_of p.places =
-    maps-each record_of p.places rows (omega (arith, c.map.ensures.items.long)) (λ i q r b. (of i q r (omega arith)).0) in (
-      e ∙ ap (map record_of) laid.rest ∙ map-pad record_of most_pending zero_pending no_record (pending_list p) refl,
-      record {
-        dst = λ i h. let o = of i zero_pending [] (omega (arith, count zero_pending p laid, laid.fit)) in rw o.0 o.1;
-        payload = λ i h. let o = of i zero_pending [] (omega (arith, count zero_pending p laid, laid.fit)) in rw o.0 o.2;
-      },
+    let u = (counts c.args.d c.requires).0 in
+    let es = take p.used p.places in
+    let few : length es ≡ p.used = length-take-le p.used p.places (omega arith) in
+    let m = ap length l.invariant.0 ∙ filled record_of most_pending no_record es l.i (omega arith) in
+    let r = c.record_of.ensures in (
+      fill_more record_of zero_pending es l.i (omega arith) most_pending no_record l.rows _ (omega arith) l.invariant.0 r.0,
+      rw r.0 (sendable-more l.rows l.i _ (omega arith) l.invariant.1 r.1 r.2),
     )

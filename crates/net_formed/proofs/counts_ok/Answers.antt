@@ -12,5 +12,6 @@ use Rattle.net_formed.proofs.counts_ok.Goals as goal
 
 pub returns : goal.returns
 returns c =
-    all_from_yields_List (λ (x : Entry). count_ok base.room.copies c.args.kind x.count) _ _ _ c.all.ensures.ran (YieldsList-from_slice c.args.entries.now cc) (λ x b q k. search (rules, tests))
+    all_from_yields_List (λ (x : Entry). count_ok base.room.copies c.args.kind x.count) _ _ _ c.all.ensures.ran
+    (YieldsList-from_slice c.args.entries.now cc) (λ x b q k. search (rules, tests))
     ∙ sym (all-is (λ (x : Entry). count_ok base.room.copies c.args.kind x.count) c.args.entries.now)

@@ -11,5 +11,6 @@ use Rattle.net_formed.proofs.sources_known.Goals as goal
 
 pub returns : goal.returns
 returns c =
-    all_from_yields_List (λ (x : Entry). source_known c.args.actors x.envelope) _ _ _ c.all.ensures.ran (YieldsList-from_slice c.args.entries.now cc) (λ x b q k. search (rules, tests))
+    all_from_yields_List (λ (x : Entry). source_known c.args.actors x.envelope) _ _ _ c.all.ensures.ran
+    (YieldsList-from_slice c.args.entries.now cc) (λ x b q k. search (rules, tests))
     ∙ sym (all-is (λ (x : Entry). source_known c.args.actors x.envelope) c.args.entries.now)

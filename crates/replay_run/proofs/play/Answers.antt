@@ -39,8 +39,10 @@ answer_line-end-requires c =
     let seen = as_case r c.in-Some.is c.in-Ok.ensures.value in
     let n = c.number_of-number.ensures in
     let m = c.act_in-answer in
-    let go = going g.turn a r seen in
-    (λ w. rw n (move-fits g a r seen (sent_in m.result m.new.net) _ _ (rw c.loop-action.invariant.0 at m.ensures.0) w), omega (arith, g.turn.wide, go.here, p.short))
+    let go = going g.turn a r seen in (
+      λ w. rw n (move-fits g a r seen (sent_in m.result m.new.net) _ _ (rw c.loop-action.invariant.0 at m.ensures.0) w),
+      omega (arith, g.turn.wide, go.here, p.short),
+    )
 
 pub count-requires : goal.count-requires
 count-requires c =

@@ -12,5 +12,5 @@ returns-in-Err c =
     let s = c.args.script.now in
     c.unreadable.ensures ∙ sym (ap opened_of (missed opening_held (opening_from versions) s 0 c.in-Err.ensures.value))
 
-pub returns-in-Ok : goal.returns-in-Ok
-returns-in-Ok c = opened-is c.args.script.now c.in-Ok.ensures.value c.start-answered.ensures
+pub returns : goal.returns
+returns c = opened-is c.args.script.now c.in-Ok.ensures.value c.start-answered.ensures

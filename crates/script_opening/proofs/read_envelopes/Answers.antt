@@ -1,7 +1,8 @@
 -- The count is read first, and is at most what the format allows; so many envelopes follow it.
 use native.Mathlib.Omega.{arith}
+use Prim.Native.Nat.{◌≤◌}
 use mathlib.Core.Path.{sym, ap, ◌∙◌}
-use borrow.Author.Rules.{rules}
+use borrow.Author.Rules.{rules, lives}
 use lib.ListN.{drop}
 use Rattle.std.specs.Prelude.{Ok}
 use Rattle.lists.specs.Lists.{pad}
@@ -11,7 +12,7 @@ use Rattle.types.specs.declared.Envelope.{Envelope}
 use Rattle.rules.specs.Script.{envelope_count_form, envelope_form, envelopes_from}
 use Rattle.script_places.specs.Views.{same}
 use Rattle.script_places.proofs.Says.{tells, failed}
-use Rattle.script_opening.specs.Views.{envelopes_held, envelopes_read}
+use Rattle.script_opening.specs.Views.{Kept, envelopes_held, envelopes_read}
 use Rattle.script_opening.specs.Says.{envelopes_in}
 use Rattle.script_opening.proofs.Readings.{found_is, found_same, missed, then_read, then_bad, few-envelopes}
 use Rattle.script_opening.proofs.Kept.{kept-one, kept-repeat, repeat-length}
@@ -30,19 +31,10 @@ pub read_many-requires : goal.read_many-requires
 read_many-requires c = λ k h.
     let a = c.args in
     let n = found_same (one (envelope_count_form a.f)) a.script.now a.at (kept-one (envelope_count_form a.f)) c.in_ok-used.ensures.value in
-    let few = few-envelopes a.f (drop a.at a.script.now) a.at n in (
-      search rules,
-      (
-        search rules,
-        (
-          search rules,
-          (
-            search rules,
-            (omega (arith, few, c.requires.most), (search rules, (kept-one (envelope_form a.f), λ p r e. search rules))),
-          ),
-        ),
-      ),
-    )
+    let few = few-envelopes a.f (drop a.at a.script.now) a.at n in
+    let room : c.in_ok-used.used ≤ most_entries = omega (arith, few, c.requires.most) in
+    let kept : Kept (one (envelope_form a.f)) = kept-one (envelope_form a.f) in
+    (search lives, (search lives, (search lives depth 12, search (rules, room, kept) parts 12)))
 
 pub returns-in_err-list : goal.returns-in_err-list
 unfolding envelopes_from

@@ -1,6 +1,6 @@
 -- The count is read first; so many rules follow it.
 use mathlib.Core.Path.{sym, ap, ◌∙◌}
-use borrow.Author.Rules.{rules}
+use borrow.Author.Rules.{rules, lives}
 use lib.ListN.{drop}
 use Rattle.std.specs.Prelude.{Ok}
 use Rattle.lists.specs.Lists.{pad}
@@ -11,7 +11,7 @@ use Rattle.rules.specs.Script.{rule_count_form, rule_form, table_from}
 use Rattle.link_inner.specs.Views.{rules_of, table_as}
 use Rattle.script_places.specs.Views.{same}
 use Rattle.script_places.proofs.Says.{tells, failed}
-use Rattle.script_opening.specs.Views.{table_read}
+use Rattle.script_opening.specs.Views.{Kept, table_read}
 use Rattle.script_opening.proofs.Readings.{found_is, found_same, missed, then_read, then_bad, few-rules}
 use Rattle.script_opening.proofs.Kept.{kept-one, kept-repeat, repeat-length}
 use Rattle.script_opening.proofs.Says.{table_back}
@@ -28,19 +28,10 @@ returns-in_err-used c =
 pub read_many-requires : goal.read_many-requires
 read_many-requires c = λ k h.
     let a = c.args in
-    let n = found_same (one rule_count_form) a.script.now a.at (kept-one rule_count_form) c.in_ok-used.ensures.value in (
-      search rules,
-      (
-        search rules,
-        (
-          search rules,
-          (
-            search rules,
-            (few-rules (drop a.at a.script.now) a.at n, (search rules, (kept-one (rule_form a.f), λ p r e. search rules))),
-          ),
-        ),
-      ),
-    )
+    let n = found_same (one rule_count_form) a.script.now a.at (kept-one rule_count_form) c.in_ok-used.ensures.value in
+    let room = few-rules (drop a.at a.script.now) a.at n in
+    let kept : Kept (one (rule_form a.f)) = kept-one (rule_form a.f) in
+    (search lives, (search lives, (search lives depth 12, search (rules, room, kept) parts 12)))
 
 pub returns-in_err-rules : goal.returns-in_err-rules
 unfolding table_from

@@ -1,8 +1,9 @@
 -- So many tables, read as their structs.
 use native.Mathlib.Omega.{arith}
-use mathlib.Core.Path.{◌≡◌, sym, ap, ◌∙◌}
+use Prim.Native.Nat.{ℕ, ◌≤◌}
+use mathlib.Core.Path.{sym, ap, ◌∙◌}
 use mathlib.Core.List.{map}
-use borrow.Author.Rules.{rules}
+use borrow.Author.Rules.{rules, lives}
 use lib.ListN.{drop}
 use Rattle.std.specs.Prelude.{Ok}
 use Rattle.lists.specs.Lists.{pad}
@@ -11,7 +12,7 @@ use Rattle.types.specs.Capacities.{most_actors}
 use Rattle.rules.specs.Script.{table_from}
 use Rattle.link_inner.specs.Views.{table_as}
 use Rattle.script_places.proofs.Says.{tells, failed}
-use Rattle.script_opening.specs.Views.{table_read, tables_held, tables_read}
+use Rattle.script_opening.specs.Views.{Kept, tables_held, tables_read}
 use Rattle.script_opening.specs.Says.{tables_in}
 use Rattle.script_opening.proofs.Readings.{found_is, missed}
 use Rattle.script_opening.proofs.Kept.{kept-repeat, repeat-length}
@@ -21,30 +22,11 @@ use Rattle.script_opening.proofs.read_tables.Goals as goal
 
 pub read_many-requires : goal.read_many-requires
 read_many-requires c = λ k h.
-    let a = c.args in (
-      search rules,
-      (
-        search rules,
-        (
-          search rules,
-          (
-            search rules,
-            (
-              omega arith,
-              (
-                search rules,
-                (
-                  kept-tables a.f,
-                  λ p r e.
-                      (let x : r ≡ table_read (table_from a.f (drop p a.script.now) p) = search rules in
-                      x ∙ changed-result table_as (table_from a.f (drop p a.script.now) p)),
-                ),
-              ),
-            ),
-          ),
-        ),
-      ),
-    )
+    let a = c.args in
+    let room : a.count ≤ most_actors = omega arith in
+    let kept : Kept (table_reader a.f) = kept-tables a.f in
+    let as_struct = λ (p : ℕ). changed-result table_as (table_from a.f (drop p a.script.now) p) in
+    (search lives, (search lives, (search lives depth 12, search (rules, room, kept, as_struct) parts 12)))
 
 pub returns-in_err-list : goal.returns-in_err-list
 returns-in_err-list c =

@@ -102,7 +102,8 @@ returns-in-Drop c =
     let rs = listed_rules a.table.now in
     let g = c.drop in
     record {
-      rows = drops-on a.count rs a.net.now.kind a.net.now.used a.net.now.len x c.requires.0 a.a _ c.in-Drop.is (sent_in g.result g.new.net) g.new.net.cells g.ensures.0;
+      rows = drops-on a.count rs a.net.now.kind a.net.now.used a.net.now.len x c.requires.0 a.a _ c.in-Drop.is
+          (sent_in g.result g.new.net) g.new.net.cells g.ensures.0;
       kind = g.ensures.1;
     }
 

@@ -16,7 +16,8 @@ returns-then-table-at c =
     let f = c.rule_for-at in
     let g = c.pass_by in
     λ count. record {
-      rows = heard-passed a.net.now.kind a.e a.number a.payload a.net.now.used a.net.now.len x c.requires.0 c.requires.2 a.table.now.rows a.table.now.used c.requires.1 f.result
+      rows = heard-passed a.net.now.kind a.e a.number a.payload a.net.now.used a.net.now.len x c.requires.0 c.requires.2
+          a.table.now.rows a.table.now.used c.requires.1 f.result
           (f.ensures a.e.src) (sent_in g.result g.new.net) (rows_in g.new.net.cells a.actor.now) count
           c.if-table-at.true g.ensures.rows;
       kind = g.ensures.kind;
@@ -40,7 +41,8 @@ returns c =
     let n = c.state_after-next in
     let g = c.on_message in
     λ count. record {
-      rows = heard-taken a.net.now.kind a.e a.number a.payload a.net.now.used a.net.now.len x c.requires.0 c.requires.2 a.table.now.rows a.table.now.used c.requires.1 f.result
+      rows = heard-taken a.net.now.kind a.e a.number a.payload a.net.now.used a.net.now.len x c.requires.0 c.requires.2
+          a.table.now.rows a.table.now.used c.requires.1 f.result
           (f.ensures a.e.src) (sent_in g.result g.new.net) (rows_in g.new.net.cells g.new.actor) count
           (omega (arith, c.if-table-at.false)) n.result n.ensures.0
           g.ensures.rows;

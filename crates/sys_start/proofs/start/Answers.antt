@@ -34,7 +34,8 @@ returns-then-not-is_done c =
     let a = c.args in
     c.refused-then-not-is_done.ensures
     ∙ start-full a.kind a.count a.tables a.given c.kind_of.result c.kind_of.ensures
-    (sym c.startable.ensures ∙ c.if-not-startable.false) (sent_in c.fill-answer.result c.fill-answer.new.net) c.fill-answer.new.net.cells c.fill-answer.ensures.0
+    (sym c.startable.ensures ∙ c.if-not-startable.false) (sent_in c.fill-answer.result c.fill-answer.new.net)
+    c.fill-answer.new.net.cells c.fill-answer.ensures.0
     (sym c.is_done.ensures ∙ c.if-not-is_done.true)
 
 pub wake_all-requires : goal.wake_all-requires
@@ -55,5 +56,6 @@ returns c =
     let a = c.args in
     rw c.fill-answer.ensures.1 at c.wake_all.ensures ∙ ap (answered_of (system_of blank))
     (start-wakes a.kind a.count a.tables a.given c.kind_of.result c.kind_of.ensures
-    (sym c.startable.ensures ∙ c.if-not-startable.false) (sent_in c.fill-answer.result c.fill-answer.new.net) c.fill-answer.new.net.cells c.fill-answer.ensures.0
+    (sym c.startable.ensures ∙ c.if-not-startable.false) (sent_in c.fill-answer.result c.fill-answer.new.net)
+    c.fill-answer.new.net.cells c.fill-answer.ensures.0
     (sym c.is_done.ensures ∙ c.if-not-is_done.false))

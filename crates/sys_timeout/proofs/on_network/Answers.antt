@@ -28,6 +28,7 @@ returns c =
     let x = c.resend_all-s in
     let some : 0 < get_or a.actor.now.live 1 0 = omega (arith, c.if-n-eq0.false) in
     λ count rs. record {
-      rows = again-sent a.me count rs a.net.now.kind a.net.now.used a.net.now.len (rows_in a.net.now.cells a.actor.now) c.requires.0 c.requires.1 some x.result x.new.c x.ensures;
+      rows = again-sent a.me count rs a.net.now.kind a.net.now.used a.net.now.len (rows_in a.net.now.cells a.actor.now)
+          c.requires.0 c.requires.1 some x.result x.new.c x.ensures;
       kind = refl;
     }

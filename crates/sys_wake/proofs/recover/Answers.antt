@@ -30,7 +30,8 @@ returns-else-not-is_done c =
     let g = c.wake-answer in
     let z : Rows = rows_in g.new.net.cells g.new.actor in
     λ count. record {
-      rows = stepped-done count a.i rs a.net.now.kind a.net.now.used a.net.now.len x c.requires.0 (is-crashed _ c.if-mark-eq0.false) (sent_in g.result g.new.net) z (g.ensures count).rows
+      rows = stepped-done count a.i rs a.net.now.kind a.net.now.used a.net.now.len x c.requires.0
+          (is-crashed _ c.if-mark-eq0.false) (sent_in g.result g.new.net) z (g.ensures count).rows
           (sym c.is_done.ensures ∙ c.if-not-is_done.false);
       kind = (g.ensures count).kind;
     }
@@ -43,7 +44,8 @@ returns-then-not-is_done c =
     let g = c.wake-answer in
     let z : Rows = rows_in g.new.net.cells g.new.actor in
     λ count. record {
-      rows = stepped-back count a.i rs a.net.now.kind a.net.now.used a.net.now.len x c.requires.0 (is-crashed _ c.if-mark-eq0.false) (sent_in g.result g.new.net) z (g.ensures count).rows
+      rows = stepped-back count a.i rs a.net.now.kind a.net.now.used a.net.now.len x c.requires.0
+          (is-crashed _ c.if-mark-eq0.false) (sent_in g.result g.new.net) z (g.ensures count).rows
           (sym c.is_done.ensures ∙ c.if-not-is_done.true);
       kind = (g.ensures count).kind;
     }

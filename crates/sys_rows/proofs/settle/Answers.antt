@@ -1,6 +1,6 @@
--- `settle` meets its contract. The commands are noted; the marks stand aside of the durable part.
+-- `sys_rows::settle` meets its contract. The commands are noted; the marks stand aside of the durable part.
 -- Assumes nothing.
-use mathlib.Core.Path.{◌≡◌, refl}
+use mathlib.Core.Path.{◌≡◌}
 use Prim.Native.Nat.{◌<◌}
 use lib.ListN.{length}
 use Rattle.types.specs.Capacities.{most_pending}
@@ -8,7 +8,7 @@ use Rattle.link_tables.specs.Rows.{orders}
 use Rattle.link_rows.specs.Rows.{row_size}
 use Rattle.sys_rows.proofs.Laws.{settled}
 use borrow.Author.Rules.{rules}
-use Rattle.sys_rows.proofs.ActorRows.settle.Goals as goal
+use Rattle.sys_rows.proofs.settle.Goals as goal
 
 pub returns : goal.returns
 returns c =
@@ -20,9 +20,5 @@ returns c =
     let r1 : length w1 ≡ row_size = search (rules, c.requires.1.room) in
     let r2 : length p1 ≡ most_pending = search (rules, c.requires.1.places) in
     let ht : a.timers < 4294967296 = search rules in
-    record {
-      live = rw c.put_marks.ensures
-          (settled os a.self.now.live a.self.now.pend w1 p1 a.timers a.state c.requires.1 n.ensures r1 r2 c.requires.3 ht c.requires.2);
-      kept = refl;
-      stored = refl;
-    }
+    rw c.put_marks.ensures
+    (settled os a.live.now a.pend.now w1 p1 a.timers a.state c.requires.1 n.ensures r1 r2 c.requires.3 ht c.requires.2)
