@@ -1,5 +1,5 @@
-// Reading a script from a reader, and where the program is to read it from. What a read gave no contract can say of every reader;
-// what follows from it is decided by a function of its own, with an equation.
+// Reading a script from a reader, and where the program is to read it from. No contract can say of every reader what a read gave. What
+// follows from it is decided by a function of its own, with an equation.
 #![tactic(auto)]
 
 ghost use Rattle.std.specs.Prelude.{◌≡◌, ◌+◌, ◌<◌, ◌≤◌, IfOk, OnErr, length, take, drop};

@@ -1,4 +1,5 @@
 -- What follows the read says what is so behind it.
+-- Assumes nothing.
 use Rattle.std.proofs.Common.{sym, arith}
 use Rattle.std.proofs.lemmas.List.{length-take-le}
 use Rattle.replay_input.proofs.Laws.{follows}
