@@ -10,6 +10,10 @@ use itoa::write_digits;
 pub fn width(n: u64) -> usize
     ensures { (result ≡ length (decimal n)) × (result ≤ 20) }
 {
+    // Most numbers of a line have one digit, and the logarithm takes longer.
+    if n < 10 {
+        return 1;
+    }
     n.checked_ilog10().unwrap_or(0) as usize + 1
 }
 

@@ -220,6 +220,8 @@ fn action_part(w: u64, v: u64, f: Format) -> ActionPart
     }
 }
 
+// Inlined: a caller that keeps nothing of the action, as the check of a script, then makes none.
+#[inline(always)]
 pub fn read_action(script: &[u8], at: usize, f: Format) -> Result<(Option<Action>, usize), BadAt>
     requires { Fine f }
     ensures value { result ≡ action_read (one (action_form f) (drop at script.now) at) }

@@ -1,8 +1,11 @@
 -- What the search leaves open of `width`.
 -- Assumes nothing.
-use Rattle.std.proofs.Common.{arith}
-use Rattle.replay_decimals.proofs.Laws.{width_of}
+use Rattle.std.proofs.Common.{sym, arith}
+use Rattle.replay_decimals.proofs.Laws.{length-small, width_of}
 use Rattle.replay_decimals.proofs.width.Goals as goal
+
+pub returns-then-n-lt10 : goal.returns-then-n-lt10
+returns-then-n-lt10 c = (sym (length-small c.args.n c.if-n-lt10.true), omega arith)
 
 pub returns : goal.returns
 returns c =
