@@ -183,6 +183,8 @@ pub fn read_envelope(script: &[u8], at: usize, f: Format) -> Result<(Envelope, u
 
 // ---- an action, or None at the end
 // Its kind, of which the format has so many, and what belongs to it.
+// Inlined, as `read_action`: a caller that keeps nothing of the action, as the check of a script, then makes none.
+#[inline(always)]
 fn action_part(w: u64, v: u64, f: Format) -> ActionPart
     requires { Fine f }
     ensures by_index { (xs : List ℕ) → Front xs w v → result ≡ action_part (follow xs (action_form f) 0) }
@@ -220,7 +222,6 @@ fn action_part(w: u64, v: u64, f: Format) -> ActionPart
     }
 }
 
-// Inlined: a caller that keeps nothing of the action, as the check of a script, then makes none.
 #[inline(always)]
 pub fn read_action(script: &[u8], at: usize, f: Format) -> Result<(Option<Action>, usize), BadAt>
     requires { Fine f }
