@@ -10,7 +10,7 @@ use itoa::write_digits;
 pub fn width(n: u64) -> usize
     ensures { (result ≡ length (decimal n)) × (result ≤ 20) }
 {
-    // Most numbers of a line have one digit, and the logarithm takes longer.
+    // Many numbers of the output have one digit, and the logarithm takes longer.
     if n < 10 {
         return 1;
     }

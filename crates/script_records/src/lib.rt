@@ -183,7 +183,7 @@ pub fn read_envelope(script: &[u8], at: usize, f: Format) -> Result<(Envelope, u
 
 // ---- an action, or None at the end
 // Its kind, of which the format has so many, and what belongs to it.
-// Inlined, as `read_action`: a caller that keeps nothing of the action, as the check of a script, then makes none.
+// Inlined, and `read_action` too: for a caller that drops the action, such as the check of a script, none is made then.
 #[inline(always)]
 fn action_part(w: u64, v: u64, f: Format) -> ActionPart
     requires { Fine f }
